@@ -53,6 +53,21 @@ fn count(regex: &Regex, text: &str, steps: usize) -> Result<usize, SearchError> 
     Ok(count)
 }
 
+/// The text of each field of a line, in so many steps for all of them together.
+fn fields<'t>(
+    alloc: Global,
+    regex: &Regex,
+    line: &'t str,
+    steps: usize,
+) -> Result<Vec<&'t str>, SearchError> {
+    let mut fields = Vec::new(alloc);
+    for field in regex.within(steps).split(line)? {
+        let field = field?;
+        fields.push(field)?;
+    }
+    Ok(fields)
+}
+
 #[test]
 fn a_search_that_takes_too_many_steps_is_given_up(rt: HostRuntime) -> Result<(), Fail> {
     let tables = Tables::small(rt.alloc())?;
@@ -93,5 +108,33 @@ fn no_step_is_enough_for_no_run(rt: HostRuntime) -> Result<(), Fail> {
     let regex = compiled(rt.alloc(), "ab", "", &tables)?;
     assert!(rt; regex.within(0).is_match("ab") == Err(SearchError::TooManySteps));
     assert!(rt; regex.within(0).is_match("xyz") == Ok(false));
+    Ok(())
+}
+
+#[test]
+fn fields_in_so_many_steps(rt: HostRuntime) -> Result<(), Fail> {
+    let tables = Tables::small(rt.alloc())?;
+    let comma = compiled(rt.alloc(), ",", "", &tables)?;
+    let told = fields(rt.alloc(), &comma, "é,b,,c", 1_000)?;
+    assert!(rt; told.as_slice() == ["é", "b", "", "c"].as_slice());
+    let mut two = comma.within(1_000).splitn("é,b,c", 2)?;
+    assert!(rt; two.next().transpose()? == Some("é") && two.next().transpose()? == Some("b,c"));
+    assert!(rt; two.next().is_none());
+    Ok(())
+}
+
+#[test]
+fn texts_in_so_many_steps(rt: HostRuntime) -> Result<(), Fail> {
+    let tables = Tables::small(rt.alloc())?;
+    let digits = compiled(rt.alloc(), "\\d", "", &tables)?;
+    let bounded = digits.within(1_000);
+    assert!(rt; bounded.replace("a1b2c3", "<$0>")?.as_str() == "a<1>b2c3");
+    assert!(rt; bounded.replacen("a1b2c3", 2, "#")?.as_str() == "a#b#c3");
+    assert!(rt; bounded.replace_all("a1b2c3", "")?.as_str() == "abc");
+    let alloc = rt.alloc();
+    let new = |_: &Match| -> Result<String, SearchError> { Ok(String::from_str(alloc, "$0")?) };
+    assert!(rt; bounded.replace_with("a1b2", &new)?.as_str() == "a$0b2");
+    assert!(rt; bounded.replace_all_with("a1b2", &new)?.as_str() == "a$0b$0");
+    assert!(rt; matches!(&digits.within(0).replace("a1", "#"), Err(SearchError::TooManySteps)));
     Ok(())
 }

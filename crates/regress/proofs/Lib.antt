@@ -1,9 +1,9 @@
 pub use Rattle.regress_programs.proofs.IterationLemmas
-pub mod RisingLemmas
-pub mod ReplacingLemmas
+pub use Rattle.regress_matched.proofs.RisingLemmas
+pub use Rattle.regress_matched.proofs.ReplacingLemmas
+pub mod RefusedLemmas
 pub mod LawLemmas
 pub use Rattle.regress_programs.proofs.AskingLemmas
-pub mod SplittingLemmas
 pub mod ShownLemmas
 pub use Rattle.regress_programs.proofs.ListedLemmas
 pub use Rattle.regress_programs.proofs.ToldLemmas

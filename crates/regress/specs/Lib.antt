@@ -6,8 +6,8 @@ pub mod Standing
 pub use Rattle.regress_programs.specs.Outcomes
 pub mod Limited
 pub use Rattle.regress_programs.specs.Coming
-pub mod Answering
-pub mod Behind
+pub use Rattle.regress_matched.specs.Answering
+pub use Rattle.regress_matched.specs.Behind
 pub mod Splitting
 pub use Rattle.regress_programs.specs.Units
 pub use Rattle.regress_programs.specs.Slotted

@@ -26,7 +26,7 @@ pub use laws::{
     parts_stand_between_the_matches, whole_matches_give_the_text_back,
 };
 pub use limited::DEFAULT_LIMIT;
-pub use regress_bounded::{Bounded, BoundedMatches};
+pub use regress_bounded::{Bounded, BoundedMatches, BoundedSplit, BoundedSplitN};
 pub use regress_engine::{
     CompiledRegex, Scratch, SearchError, is_unit_start, is_well_formed_utf16,
 };

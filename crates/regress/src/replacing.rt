@@ -1,5 +1,5 @@
 //! Texts with others in the place of their matches.
-ghost use Rattle.std.specs.Prelude.{◌≡◌, ◌⊎◌, ◌++◌, ℕ, List, take, map, chars, IfOk, IfErr, OnOk, IsOkUnless, string_bytes};
+ghost use Rattle.std.specs.Prelude.{◌≡◌, ◌⊎◌, ℕ, List, take, map, chars, IfOk, IfErr, IsOkUnless, string_bytes};
 ghost use Rattle.std.specs.Fn.{FnReturnsAt, FnOnceReturnsAt};
 ghost use Rattle.regress_meaning.specs.Table.{Table};
 ghost use Rattle.regress_meaning.specs.Pattern.{Pattern};
@@ -11,22 +11,12 @@ ghost use Rattle.regress_replacing.specs.Syntax.{replacement_text};
 ghost use Rattle.regress_replacing.specs.SyntaxViews.{syntax_of, text_of};
 ghost use Rattle.regress_front.specs.Trees.{Tree};
 ghost use Rattle.regress.specs.Standing.{StandsFor, HasTree, tree_list, names_of_regex};
-ghost use Rattle.regress.specs.Answering.{AnswersEach, RefusesOne};
+ghost use Rattle.regress_matched.specs.Answering.{AnswersEach, RefusesOne};
 
 use crate::api::Regex;
 use regress_front::Error;
 use regress_match::Match;
 use regress_replacing::{AnyReplacement, ReplacementSyntax};
-
-/// Adds a part of the text that is kept, and a new text behind it.
-fn append(written: &mut String, kept: &str, new: &str) -> Result<(), Error>
-    ensures added { OnOk result (string_bytes written.new ≡ string_bytes written.old ++ kept.now ++ new.now) }
-    ensures refused { IsOkUnless result Error.OutOfMemory }
-{
-    written.push_str(kept)?;
-    written.push_str(new)?;
-    Ok(())
-}
 
 impl Regex {
     /// A text with its first match replaced by a replacement text ("RegExp.prototype [ @@replace ]").
@@ -137,19 +127,8 @@ impl Regex {
             IfOk result (λ s. string_bytes s ≡ replaced text.now items (map (replacement_text (syntax_of read.now) (names_of_regex self.now) (text_of read.now) text.now) items)) }
         ensures refused { IsOkUnless result Error.OutOfMemory }
     {
-        let mut matches = self.find_iter(text)?;
-        let mut written = String::new(self.alloc);
-        let mut behind = 0;
-        for _ in 0..limit {
-            let Some(found) = matches.next().transpose()? else {
-                break;
-            };
-            written.push_str(&text[behind..found.start()])?;
-            read.write(&found, text, &mut written)?;
-            behind = found.end();
-        }
-        written.push_str(&text[behind..])?;
-        Ok(written)
+        let matches = self.find_iter(text)?;
+        regress_matched::replace_first(self.alloc, matches, text, limit, read)
     }
 
     /// A text with each match replaced by a replacement text, which is read as `replace` says ("RegExp.prototype
@@ -208,16 +187,8 @@ impl Regex {
             IfOk result (λ s. string_bytes s ≡ replaced text.now items (map (replacement_text (syntax_of read.now) (names_of_regex self.now) (text_of read.now) text.now) items)) }
         ensures refused { IsOkUnless result Error.OutOfMemory }
     {
-        let mut written = String::new(self.alloc);
-        let mut behind = 0;
-        for found in self.find_iter(text)? {
-            let found = found?;
-            written.push_str(&text[behind..found.start()])?;
-            read.write(&found, text, &mut written)?;
-            behind = found.end();
-        }
-        written.push_str(&text[behind..])?;
-        Ok(written)
+        let matches = self.find_iter(text)?;
+        regress_matched::replace_each(self.alloc, matches, text, read)
     }
 
     /// A text with its first match replaced by the text that a closure answers to it ("RegExp.prototype [ @@replace ]"), as it
@@ -250,15 +221,8 @@ impl Regex {
             let items = take 1 (map (told (of_utf8 text.now)) (tree_list self.now n t (chars text.now) 0)) in
             IfErr result (λ e. E.from_gives Error.OutOfMemory e ⊎ RefusesOne (FnOnceReturnsAt F.FnOnce with) (names_of_regex self.now) items e) }
     {
-        let mut written = String::new(self.alloc);
-        let Some(found) = self.find(text)? else {
-            append(&mut written, text, "")?;
-            return Ok(written);
-        };
-        let answer = with(&found)?;
-        append(&mut written, &text[..found.start()], answer.as_str())?;
-        append(&mut written, &text[found.end()..], "")?;
-        Ok(written)
+        let matches = self.find_iter(text)?;
+        regress_matched::replace_with(self.alloc, matches, text, with)
     }
 
     /// A text with each match replaced by the text that a closure answers to it ("RegExp.prototype [ @@replace ]"), as it
@@ -291,15 +255,7 @@ impl Regex {
             let items = map (told (of_utf8 text.now)) (tree_list self.now n t (chars text.now) 0) in
             IfErr result (λ e. E.from_gives Error.OutOfMemory e ⊎ RefusesOne (FnReturnsAt F.Fn with) (names_of_regex self.now) items e) }
     {
-        let mut written = String::new(self.alloc);
-        let mut behind = 0;
-        for found in self.find_iter(text)? {
-            let found = found?;
-            let new = with(&found)?;
-            append(&mut written, &text[behind..found.start()], new.as_str())?;
-            behind = found.end();
-        }
-        append(&mut written, &text[behind..], "")?;
-        Ok(written)
+        let matches = self.find_iter(text)?;
+        regress_matched::replace_all_with(self.alloc, matches, text, with)
     }
 }

@@ -2,3 +2,4 @@ pub mod StepLemmas
 pub mod ShownLemmas
 pub mod IterationLemmas
 pub mod AlikeLemmas
+pub mod TogetherLemmas

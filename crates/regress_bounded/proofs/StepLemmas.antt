@@ -1,12 +1,18 @@
 -- What a step of an executor with a budget gives, told as a call of an iterator over it.
 use Rattle.std.specs.Prelude.{OnSome}
-use Rattle.std.proofs.Common.{◌≡◌, ℕ, ◌<◌, List, [], ◌∷◌, Option, Some, None, Result, Ok, Err, IfSome, sym, ap, ◌∙◌, subst}
+use Rattle.std.proofs.Common.{◌≡◌, true, ℕ, ◌<◌, List, [], ◌∷◌, Option, Some, None, Result, Ok, Err, IfSome, sym, ap, ◌∙◌, subst}
 use Rattle.regress_match.specs.declared.found.Match.{Match}
 use Rattle.regress_match.specs.Views.{item_of}
 use Rattle.regress_match.specs.Iterating.{coming_on, steps_on}
+use Rattle.regress_match.specs.TextRanges.{IsMatchIn}
+use Rattle.regress_meaning.specs.Matches.{Item}
+use Rattle.regress_engine_input.specs.Views.{AreOfKind, are_bytes}
+use Rattle.regress_engine_code.specs.Standing.{names_of}
+use Rattle.regress_engine_search.proofs.ProducerLemmas.{match-in_bytes}
 use Rattle.regress_engine_exec.specs.declared.error.SearchError.{SearchError}
 use Rattle.regress_engine_search.specs.Search.{Search, IsMatchOf, Steps, items_from, places_behind}
-use Rattle.regress_bounded.specs.Coming.{GivesFound, UnlessFound}
+use Rattle.regress_matched.specs.Giving.{GivesFound}
+use Rattle.regress_bounded.specs.Coming.{UnlessFound}
 
 module _ (s after : Search) (kept : after ≡ s) (before next : Option ℕ) where
   -- it gives the first of the items that were coming, an error, or nothing where none was
@@ -27,3 +33,10 @@ module _ (s after : Search) (kept : after ≡ s) (before next : Option ℕ) wher
       → OnSome r (Unit {0} × Unit {0} × (steps_on (places_behind after) next < steps_on (places_behind s) before))
   step-nearer None nearer = tt
   step-nearer (Some x) nearer = (tt, tt, subst (λ (x : Search). steps_on (places_behind x) next < steps_on (places_behind s) before) (sym kept) nearer)
+
+-- over bytes a match that is given lies in the text
+pub given-in_text : (s : Search) → are_bytes s.view.kind ≡ true → AreOfKind s.view.kind s.view.units → (before : List Item) (r : Option (Result Match SearchError)) (after : List Item)
+    → GivesFound (IsMatchOf s) before r after → GivesFound (IsMatchIn s.view.units (names_of s.compiled)) before r after
+given-in_text s are all before None after given = given
+given-in_text s are all before (Some (Ok m)) after (items, of) = (items, (match-in_bytes s.view.kind s.view.units are all m of.0, of.1))
+given-in_text s are all before (Some (Err e)) after given = given

@@ -1,10 +1,11 @@
 -- The matches that an iterator with a budget has still to yield, and the steps that it may still count.
-use Rattle.std.specs.Prelude.{◌≡◌, ℕ, List, [], ◌∷◌, Option, Some, None, Result, Ok, Err}
+use Rattle.std.specs.Prelude.{◌≡◌, ℕ, List, Option, Some, None, Result, Ok, Err}
 use Rattle.regress_meaning.specs.Matches.{Item}
 use Rattle.regress_match.specs.declared.found.Match.{Match}
 use Rattle.regress_match.specs.Iterating.{coming_on, steps_on}
-use Rattle.regress_match.specs.Views.{item_of}
+use Rattle.regress_matched.specs.Giving.{GivesFound}
 use Rattle.regress_engine.specs.Search.{Search, IsMatchOf, items_from, places_behind}
+use Rattle.regress_engine.specs.Standing.{names_of}
 use Rattle.regress_engine_exec.specs.declared.error.SearchError.{SearchError}
 use Rattle.regress_engine_exec.specs.BoundedSearches.{CountsStep}
 use Rattle.regress_engine_exec.specs.BoundedSearches as executor
@@ -26,6 +27,10 @@ budget_of ms = executor.steps_of ms.executor
 abbrev pub searched : {I : Type 0} {g : _} → BoundedMatches I g → List ℕ
 searched ms = (search_by ms).view.units
 
+-- the names of the groups of the pattern that is searched for, as bytes of UTF-8
+abbrev pub searched_names : {I : Type 0} {g : _} → BoundedMatches I g → List (List ℕ)
+searched_names ms = names_of (search_by ms).compiled
+
 -- the items that are still to come, told in offsets of the text
 abbrev pub coming : {I : Type 0} {g : _} → BoundedMatches I g → List Item
 coming ms = coming_on (items_from (search_by ms)) (next_from ms)
@@ -37,13 +42,6 @@ calls_left ms = steps_on (places_behind (search_by ms)) (next_from ms)
 -- the search is over
 abbrev pub HasEnded : {I : Type 0} {g : _} → BoundedMatches I g → Type 0
 HasEnded ms = next_from ms ≡ None
-
--- What a call gave, from the items that were coming to those that still are: the first of them, before the others; nothing where
--- none was coming; or an error, behind which nothing is.
-abbrev pub GivesFound : (Match → Type 0) → List Item → Option (Result Match SearchError) → List Item → Type 0
-GivesFound IsOfSearch before None after = (before ≡ []) × (after ≡ [])
-GivesFound IsOfSearch before (Some (Ok m)) after = (before ≡ item_of m ∷ after) × IsOfSearch m
-GivesFound IsOfSearch before (Some (Err e)) after = after ≡ []
 
 -- the fact holds where a call gave no match
 abbrev pub UnlessFound : Option (Result Match SearchError) → Type 0 → Type 0
@@ -61,3 +59,7 @@ pub record GivesWithin {S : Type 0} (search_by : S → Search) (next_from : S �
   pub ends : UnlessFound r (next_from new ≡ None)
   pub ended : next_from old ≡ None → r ≡ None
   pub counted : CountsStep (search_by old) (next_from old) r (budget_of old) (budget_of new)
+
+-- the same of the iterator over the matches of a program
+abbrev pub GivesNext : {I : Type 0} {g : _} → BoundedMatches I g → Option (Result Match SearchError) → BoundedMatches I g → Type 0
+GivesNext old r new = GivesWithin search_by next_from budget_of old r new

@@ -14,6 +14,7 @@ use Rattle.regress_programs.specs.Outcomes.{outcome_of_tree}
 use Rattle.regress_programs.specs.Programs.{IsProgramOf, IsLaidOutFrom, items_of_tree}
 use Rattle.regress_bounded.specs.declared.bounded.Bounded.{Bounded}
 use Rattle.regress_bounded.specs.Stopping.{seen_by, TakesAll}
+use Rattle.regress_bounded.specs.Together.{TakesAllAlong}
 
 -- the programs that it searches with
 abbrev pub compiled_of : Bounded → Compiled
@@ -74,3 +75,12 @@ TakesAllInBytes b anchored kind bytes at = TakesAll anchored (byte_program_of b)
 -- the same over 16-bit units
 abbrev pub TakesAllInUnits : Bounded → Anchored → Kind → List ℕ → (at : ℕ) → Type 0
 TakesAllInUnits b anchored kind units at = TakesAll anchored (unit_program_of b) (seen_by (unit_program_of b) kind units) at (steps_of b)
+
+-- Over bytes of a kind the searches of an iteration from an offset on, up to one of them, take together as many steps as it may
+-- count, or more.
+abbrev pub TakesAllAlongBytes : Bounded → Kind → List ℕ → (start : ℕ) → Type 0
+TakesAllAlongBytes b kind bytes start = TakesAllAlong (byte_program_of b) (seen_by (byte_program_of b) kind bytes) start (steps_of b)
+
+-- the same over 16-bit units
+abbrev pub TakesAllAlongUnits : Bounded → Kind → List ℕ → (start : ℕ) → Type 0
+TakesAllAlongUnits b kind units start = TakesAllAlong (unit_program_of b) (seen_by (unit_program_of b) kind units) start (steps_of b)

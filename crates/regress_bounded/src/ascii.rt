@@ -12,6 +12,8 @@ ghost use Rattle.regress_front.specs.Trees.{Tree};
 ghost use Rattle.regress_match.specs.GroupViews.{names_of_match};
 ghost use Rattle.regress_match.specs.TextRanges.{LiesInText};
 ghost use Rattle.regress_match.specs.Views.{item_of};
+ghost use Rattle.regress_matched.specs.Giving.{ErrsOnlyIf};
+ghost use Rattle.regress_engine.specs.Search.{StartsAt};
 ghost use Rattle.regress_engine.specs.Views.{ascii};
 ghost use Rattle.regress_programs.specs.declared.slots.Anchored.TheVariants.{No, Yes};
 ghost use Rattle.regress_programs.specs.Coming.{BeginsAndEndsAtStarts, HoldsOfEach};
@@ -25,9 +27,10 @@ use regress_match::Match;
 use regress_programs::Anchored;
 
 impl<'r> Bounded<'r> {
-    ghost use Rattle.regress_bounded.specs.Coming.{search_by, searched, coming, budget_of};
-    ghost use Rattle.regress_bounded.specs.Standing.{StandsFor, HasTree, tree_list, tree_outcome, TakesAllInBytes, steps_of, byte_program_of, names_within};
+    ghost use Rattle.regress_bounded.specs.Coming.{search_by, next_from, searched, coming, budget_of};
+    ghost use Rattle.regress_bounded.specs.Standing.{StandsFor, HasTree, tree_list, tree_outcome, TakesAllInBytes, TakesAllAlongBytes, steps_of, byte_program_of, names_within};
     ghost use Rattle.regress_bounded.specs.Stopping.{seen_by};
+    ghost use Rattle.regress_bounded.specs.Together.{CountsAlong};
 
     /// The first match in a text of ASCII, as `find` answers it.
     ///
@@ -73,6 +76,9 @@ impl<'r> Bounded<'r> {
         ensures over { IfOk result (λ ms. (search_by ms).view ≡ seen_by (byte_program_of self.now) ascii text.now) }
         ensures program { IfOk result (λ ms. (search_by ms).compiled ≡ byte_program_of self.now) }
         ensures steps { IfOk result (λ ms. budget_of ms ≡ steps_of self.now) }
+        ensures begins { IfOk result (λ ms. StartsAt (search_by ms) 0 (next_from ms)) }
+        ensures counted { IfOk result (λ ms. CountsAlong search_by next_from budget_of ms) }
+        ensures stopped { IfOk result (ErrsOnlyIf ⟦<BoundedMatches<'r, AsciiInput<'r, 't>> as Iterator>⟧.next_gives SearchError.TooManySteps (TakesAllAlongBytes self.now ascii text.now 0)) }
         ensures along { IfOk result (HoldsAfterAnyCalls (λ ms. searched ms ≡ text.now) ⟦<BoundedMatches<'r, AsciiInput<'r, 't>> as Iterator>⟧.next_gives) }
         ensures inside { IfOk result (HoldsOfEach ⟦<BoundedMatches<'r, AsciiInput<'r, 't>> as Iterator>⟧.next_gives (LiesInText text.now)) }
         ensures starts { IfOk result (HoldsOfEach ⟦<BoundedMatches<'r, AsciiInput<'r, 't>> as Iterator>⟧.next_gives (BeginsAndEndsAtStarts text.now)) }
@@ -105,6 +111,9 @@ impl<'r> Bounded<'r> {
         ensures over { IfOk result (λ ms. (search_by ms).view ≡ seen_by (byte_program_of self.now) ascii text.now) }
         ensures program { IfOk result (λ ms. (search_by ms).compiled ≡ byte_program_of self.now) }
         ensures steps { IfOk result (λ ms. budget_of ms ≡ steps_of self.now) }
+        ensures begins { IfOk result (λ ms. StartsAt (search_by ms) start (next_from ms)) }
+        ensures counted { IfOk result (λ ms. CountsAlong search_by next_from budget_of ms) }
+        ensures stopped { IfOk result (ErrsOnlyIf ⟦<BoundedMatches<'r, AsciiInput<'r, 't>> as Iterator>⟧.next_gives SearchError.TooManySteps (TakesAllAlongBytes self.now ascii text.now start)) }
         ensures along { IfOk result (HoldsAfterAnyCalls (λ ms. searched ms ≡ text.now) ⟦<BoundedMatches<'r, AsciiInput<'r, 't>> as Iterator>⟧.next_gives) }
         ensures inside { IfOk result (HoldsOfEach ⟦<BoundedMatches<'r, AsciiInput<'r, 't>> as Iterator>⟧.next_gives (LiesInText text.now)) }
         ensures starts { IfOk result (HoldsOfEach ⟦<BoundedMatches<'r, AsciiInput<'r, 't>> as Iterator>⟧.next_gives (BeginsAndEndsAtStarts text.now)) }

@@ -6,8 +6,11 @@ ghost use Rattle.regress_engine.specs.Search.{StartsAt, IsMadeOf};
 ghost use Rattle.regress_engine.specs.Views.{reading_of};
 ghost use Rattle.regress_programs.specs.Positions.{IsPlaced, IsPlaced-prop};
 
-use regress_engine::{BoundedExecutor, CompiledRegex, ExecutorInput, Scratch, SearchError, Shown};
+use regress_engine::{
+    BoundedExecutor, CompiledRegex, ExecutorInput, Scratch, SearchError, Shown, Utf8Input,
+};
 use regress_match::Match;
+use regress_matched::TextMatches;
 use std::alloc::Global;
 use std::iter::FusedIterator;
 
@@ -23,6 +26,7 @@ pub struct BoundedMatches<'r, Input: Shown> {
 impl<'r, Input: ExecutorInput> BoundedMatches<'r, Input> {
     ghost use Rattle.regress_programs.specs.SearchFor.{IsSearchFor};
     ghost use Rattle.regress_bounded.specs.Coming.{search_by, next_from, budget_of};
+    ghost use Rattle.regress_bounded.specs.Together.{CountsAlong};
 
     /// The matches of a program in an input, from an offset on, in so many steps.
     ///
@@ -45,6 +49,7 @@ impl<'r, Input: ExecutorInput> BoundedMatches<'r, Input> {
         ensures program { (search_by result).compiled ≡ program.entry.now }
         ensures begins { StartsAt (search_by result) start (next_from result) }
         ensures steps { budget_of result ≡ steps }
+        ensures counted { CountsAlong search_by next_from budget_of result }
     {
         let scratch = Scratch::new(alloc);
         let executor = BoundedExecutor::with_scratch(alloc, program, input, scratch, steps);
@@ -89,3 +94,21 @@ impl<'r, Input: ExecutorInput> Iterator for BoundedMatches<'r, Input> {
 }
 
 impl<'r, Input: ExecutorInput> FusedIterator for BoundedMatches<'r, Input> {}
+
+impl<'r, 't> TextMatches for BoundedMatches<'r, Utf8Input<'r, 't>> {
+    ghost use Rattle.regress_bounded.specs.Coming as matches;
+
+    type Error = SearchError;
+
+    ghost searched = { λ ms. matches.searched ms };
+
+    ghost names = { λ ms. matches.searched_names ms };
+
+    ghost coming = { λ ms. matches.coming ms };
+
+    ghost gives = { λ old r new. matches.GivesNext old r new };
+
+    fn next_match(&mut self) -> Option<Result<Match, SearchError>> {
+        self.next()
+    }
+}

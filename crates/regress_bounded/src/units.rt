@@ -7,6 +7,8 @@ ghost use Rattle.regress_meaning.specs.Matches.{match_list};
 ghost use Rattle.regress_meaning.specs.Offsets.{Begins, characters, of_ucs2, of_utf16, told};
 ghost use Rattle.regress_front.specs.Trees.{Tree};
 ghost use Rattle.regress_match.specs.Views.{item_of};
+ghost use Rattle.regress_matched.specs.Giving.{ErrsOnlyIf};
+ghost use Rattle.regress_engine.specs.Search.{StartsAt};
 ghost use Rattle.regress_engine.specs.Views.{ucs2, utf16};
 ghost use Rattle.regress_programs.specs.declared.slots.Anchored.TheVariants.{Yes};
 ghost use Rattle.regress_programs.specs.Coming.{HoldsOfEach};
@@ -21,9 +23,10 @@ use regress_match::Match;
 use regress_programs::Anchored;
 
 impl<'r> Bounded<'r> {
-    ghost use Rattle.regress_bounded.specs.Coming.{search_by, coming, budget_of};
-    ghost use Rattle.regress_bounded.specs.Standing.{StandsInUnits, HasTreeInUnits, tree_list_in_units, tree_outcome_in_units, TakesAllInUnits, steps_of, unit_program_of};
+    ghost use Rattle.regress_bounded.specs.Coming.{search_by, next_from, coming, budget_of};
+    ghost use Rattle.regress_bounded.specs.Standing.{StandsInUnits, HasTreeInUnits, tree_list_in_units, tree_outcome_in_units, TakesAllInUnits, TakesAllAlongUnits, steps_of, unit_program_of};
     ghost use Rattle.regress_bounded.specs.Stopping.{seen_by};
+    ghost use Rattle.regress_bounded.specs.Together.{CountsAlong};
 
     /// The matches in units of UTF-16 from `start` on, an offset in units, their ranges told in units, as
     /// `Regex::find_from_utf16` answers them ("RegExpBuiltinExec"), in so many steps for all of them together.
@@ -49,6 +52,9 @@ impl<'r> Bounded<'r> {
         ensures over { IfOk result (λ ms. (search_by ms).view ≡ seen_by (unit_program_of self.now) utf16 units.now) }
         ensures program { IfOk result (λ ms. (search_by ms).compiled ≡ unit_program_of self.now) }
         ensures steps { IfOk result (λ ms. budget_of ms ≡ steps_of self.now) }
+        ensures begins { IfOk result (λ ms. StartsAt (search_by ms) start (next_from ms)) }
+        ensures counted { IfOk result (λ ms. CountsAlong search_by next_from budget_of ms) }
+        ensures stopped { IfOk result (ErrsOnlyIf ⟦<BoundedMatches<'r, Utf16Input<'r, 't>> as Iterator>⟧.next_gives SearchError.TooManySteps (TakesAllAlongUnits self.now utf16 units.now start)) }
         ensures inside { IfOk result (HoldsOfEach ⟦<BoundedMatches<'r, Utf16Input<'r, 't>> as Iterator>⟧.next_gives (IsMatchInUnits (of_utf16 units.now) units.now)) }
         ensures refused { IsOkUnless result SearchError.OutOfMemory }
     {
@@ -80,6 +86,9 @@ impl<'r> Bounded<'r> {
         ensures over { IfOk result (λ ms. (search_by ms).view ≡ seen_by (unit_program_of self.now) ucs2 units.now) }
         ensures program { IfOk result (λ ms. (search_by ms).compiled ≡ unit_program_of self.now) }
         ensures steps { IfOk result (λ ms. budget_of ms ≡ steps_of self.now) }
+        ensures begins { IfOk result (λ ms. StartsAt (search_by ms) start (next_from ms)) }
+        ensures counted { IfOk result (λ ms. CountsAlong search_by next_from budget_of ms) }
+        ensures stopped { IfOk result (ErrsOnlyIf ⟦<BoundedMatches<'r, Ucs2Input<'r, 't>> as Iterator>⟧.next_gives SearchError.TooManySteps (TakesAllAlongUnits self.now ucs2 units.now start)) }
         ensures inside { IfOk result (HoldsOfEach ⟦<BoundedMatches<'r, Ucs2Input<'r, 't>> as Iterator>⟧.next_gives (IsMatchInUnits (of_ucs2 units.now) units.now)) }
         ensures refused { IsOkUnless result SearchError.OutOfMemory }
     {

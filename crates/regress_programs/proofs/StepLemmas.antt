@@ -8,6 +8,7 @@ use Rattle.regress_match.specs.declared.found.Match.{Match}
 use Rattle.regress_match.specs.Views.{item_of}
 use Rattle.regress_match.specs.Iterating.{GivesFirst, UnlessFound, coming_on, steps_on}
 use Rattle.regress_match.specs.TextRanges.{IsMatchIn}
+use Rattle.regress_matched.specs.Giving.{GivesFound}
 use Rattle.regress_engine_input.specs.Views.{AreOfKind, are_bytes}
 use Rattle.regress_engine_code.specs.Standing.{names_of}
 use Rattle.regress_engine_search.specs.Search.{Search, IsMatchOf, Steps, items_from, places_behind}
@@ -49,3 +50,10 @@ pub given-in_text : (s : Search) → are_bytes s.view.kind ≡ true → AreOfKin
 given-in_text s are all before None after given = given
 given-in_text s are all before (Some (Ok m)) after (items, of) = (items, (match-in_bytes s.view.kind s.view.units are all m of.0, of.1))
 given-in_text s are all before (Some (Err e)) after given = given
+
+-- what is given is the first of the items that were coming, whatever an error says
+pub given-found : (IsOfSearch : Match → Type 0) (before : List Item) (r : Option (Result Match Error)) (after : List Item)
+    → GivesFirst IsOfSearch before r after → GivesFound IsOfSearch before r after
+given-found IsOfSearch before None after given = given
+given-found IsOfSearch before (Some (Ok m)) after given = given
+given-found IsOfSearch before (Some (Err e)) after given = given.1

@@ -3,8 +3,10 @@ use Rattle.std.specs.Prelude.{◌≡◌, ℕ, List, Option, Some, None, Result, 
 use Rattle.std.specs.Iterator.{Yields}
 use Rattle.regress_meaning.specs.Matches.{Item}
 use Rattle.regress_meaning.specs.Offsets.{of_utf8, Begins}
+use Rattle.regress_front_core.specs.declared.error.Error.{Error}
 use Rattle.regress_match.specs.declared.found.Match.{Match}
-use Rattle.regress_match.specs.Iterating.{coming_on, steps_on}
+use Rattle.regress_match.specs.Iterating.{GivesMatch, coming_on, steps_on}
+use Rattle.regress_match.specs.TextRanges.{IsMatchIn}
 use Rattle.regress_engine.specs.InputViews.{utf8_view}
 use Rattle.regress_engine.specs.Standing.{names_of}
 use Rattle.regress_engine.specs.Search.{Search, items_from, places_behind}
@@ -41,6 +43,11 @@ steps_left ms = steps_on (places_behind (search_by ms)) (next_from ms)
 -- The search is over.
 abbrev pub HasEnded : Matches → Type 0
 HasEnded ms = next_from ms ≡ None
+
+-- A step gives the first of the items that were coming in the text, or a refusal, and goes on in the same text.
+abbrev pub GivesNext : Matches → Option (Result Match Error) → Matches → Type 0
+GivesNext old r new = (searched new ≡ searched old) × (searched_names new ≡ searched_names old)
+    × GivesMatch coming HasEnded (IsMatchIn (searched old) (searched_names old)) old r new
 
 -- A search in the text may begin at the offset.
 abbrev pub IsStart : List ℕ → ℕ → Type 0

@@ -12,6 +12,7 @@ use crate::compiled::Compiled;
 use regress_engine::{BacktrackExecutor, Utf8Input};
 use regress_front::Error;
 use regress_match::{Match, MatchProducer};
+use regress_matched::TextMatches;
 use std::alloc::Global;
 use std::iter::FusedIterator;
 
@@ -74,3 +75,21 @@ impl<'r, 't> Iterator for Matches<'r, 't> {
 }
 
 impl<'r, 't> FusedIterator for Matches<'r, 't> {}
+
+impl<'r, 't> TextMatches for Matches<'r, 't> {
+    ghost use Rattle.regress_programs.specs.Coming as matches;
+
+    type Error = Error;
+
+    ghost searched = { matches.searched };
+
+    ghost names = { matches.searched_names };
+
+    ghost coming = { matches.coming };
+
+    ghost gives = { matches.GivesNext };
+
+    fn next_match(&mut self) -> Option<Result<Match, Error>> {
+        self.next()
+    }
+}

@@ -10,8 +10,9 @@ use Rattle.regress_engine_search.proofs.ProducerLemmas.{match-in_bytes}
 use Rattle.regress_programs.proofs.IterationLemmas.{starts-inside}
 use Rattle.regress_programs.proofs.ListedLemmas.{coming-searched, tree-searchable, searched-rises}
 use Rattle.regress_bounded.specs.Coming.{search_by, next_from, budget_of}
-use Rattle.regress_bounded.specs.Standing.{byte_program_of}
+use Rattle.regress_bounded.specs.Standing.{steps_of, byte_program_of}
 use Rattle.regress_bounded.specs.Stopping.{seen_by}
+use Rattle.regress_bounded.proofs.TogetherLemmas.{stops-taken}
 use Rattle.regress_bounded.proofs.IterationLemmas.{search-for, searched-along, each-given}
 use Rattle.regress_bounded.proofs.ShownLemmas.{seen-as}
 use Rattle.regress_bounded.proofs.bounded.Bounded.find_from.Goals as goal
@@ -59,3 +60,9 @@ returns-clause-rise c =
     let is = search-for (byte_program_of b) utf8 bytes (sym (ap not b.compiled.now.of_bytes)) s (returns-clause-over c) c.new.ensures.program in
     let (place, begins) = c.requires in
     searched-rises s (byte_program_of b) bytes is c.utf8.text c.args.start place begins (next_from c.new.result) c.new.ensures.begins
+
+pub returns-clause-stopped : goal.returns-clause-stopped
+returns-clause-stopped c =
+    let b = c.args.self.now in
+    stops-taken search_by next_from budget_of (byte_program_of b) (seen_by (byte_program_of b) utf8 c.args.text.now) c.args.start (steps_of b) c.new.result
+    c.new.ensures.program (returns-clause-over c) c.new.ensures.begins c.new.ensures.steps

@@ -12,8 +12,9 @@ use Rattle.regress_programs.proofs.ListedLemmas.{coming-searched, tree-searchabl
 use Rattle.regress_programs.proofs.UnitLemmas.{begins-anywhere, match-in}
 use Rattle.regress_engine_input.proofs.UnitTexts.{single_offset}
 use Rattle.regress_bounded.specs.Coming.{search_by, next_from, budget_of}
-use Rattle.regress_bounded.specs.Standing.{unit_program_of}
+use Rattle.regress_bounded.specs.Standing.{steps_of, unit_program_of}
 use Rattle.regress_bounded.specs.Stopping.{seen_by}
+use Rattle.regress_bounded.proofs.TogetherLemmas.{stops-taken}
 use Rattle.regress_bounded.proofs.IterationLemmas.{search-for, each-given}
 use Rattle.regress_bounded.proofs.ShownLemmas.{seen-as}
 use Rattle.regress_bounded.proofs.bounded.Bounded.find_from_ucs2.Goals as goal
@@ -47,3 +48,9 @@ returns-clause-inside c =
     let units = c.args.units.now in
     each-given search_by next_from budget_of _ c.new.result
     (λ m of. match-in (of_ucs2 units) units (single_offset units (length units) (omega arith)) m (subst (λ (v : View). IsItemAtPlaces (reading_of v) (item_of m)) (returns-clause-over c) of.0))
+
+pub returns-clause-stopped : goal.returns-clause-stopped
+returns-clause-stopped c =
+    let b = c.args.self.now in
+    stops-taken search_by next_from budget_of (unit_program_of b) (seen_by (unit_program_of b) ucs2 c.args.units.now) c.args.start (steps_of b) c.new.result
+    c.new.ensures.program (returns-clause-over c) c.new.ensures.begins c.new.ensures.steps

@@ -12,8 +12,9 @@ use Rattle.regress_programs.proofs.ListedLemmas.{coming-searched, tree-searchabl
 use Rattle.regress_programs.proofs.UnitLemmas.{match-in}
 use Rattle.regress_engine_input.proofs.Utf16Texts.{utf16_end}
 use Rattle.regress_bounded.specs.Coming.{search_by, next_from, budget_of}
-use Rattle.regress_bounded.specs.Standing.{unit_program_of}
+use Rattle.regress_bounded.specs.Standing.{steps_of, unit_program_of}
 use Rattle.regress_bounded.specs.Stopping.{seen_by}
+use Rattle.regress_bounded.proofs.TogetherLemmas.{stops-taken}
 use Rattle.regress_bounded.proofs.IterationLemmas.{search-for, each-given}
 use Rattle.regress_bounded.proofs.ShownLemmas.{seen-as}
 use Rattle.regress_bounded.proofs.bounded.Bounded.find_from_utf16.Goals as goal
@@ -45,3 +46,9 @@ returns-clause-inside c =
     let short : All (λ u. u < 0x1_0000) units = λ k d room. let same = get_or_default units k d 0 room in let fits = c.type_inv.units k in omega (arith, same, fits) in
     each-given search_by next_from budget_of _ c.new.result
     (λ m of. match-in (of_utf16 units) units (utf16_end units short) m (subst (λ (v : View). IsItemAtPlaces (reading_of v) (item_of m)) (returns-clause-over c) of.0))
+
+pub returns-clause-stopped : goal.returns-clause-stopped
+returns-clause-stopped c =
+    let b = c.args.self.now in
+    stops-taken search_by next_from budget_of (unit_program_of b) (seen_by (unit_program_of b) utf16 c.args.units.now) c.args.start (steps_of b) c.new.result
+    c.new.ensures.program (returns-clause-over c) c.new.ensures.begins c.new.ensures.steps

@@ -2,7 +2,7 @@
 use Rattle.std.proofs.Common.{ℕ, ◌≤◌, List, [], ◌∷◌, arith}
 use Rattle.regress_meaning.specs.Laws.{ItemsRise}
 use Rattle.regress_meaning.specs.Matches.{Item}
-use Rattle.regress.specs.Behind.{LieBehind}
+use Rattle.regress_matched.specs.Behind.{LieBehind}
 
 -- items that rise lie so from the front on
 pub behind-front : (items : List Item) → ItemsRise items → LieBehind 0 items

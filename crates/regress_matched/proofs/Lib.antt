@@ -1,0 +1,3 @@
+pub mod RisingLemmas
+pub mod ReplacingLemmas
+pub mod SplittingLemmas

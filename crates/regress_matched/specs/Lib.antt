@@ -1,0 +1,4 @@
+pub mod Answering
+pub mod Behind
+pub mod Giving
+pub mod Splitting
