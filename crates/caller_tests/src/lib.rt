@@ -5,6 +5,8 @@
 #[cfg(test)]
 mod asking;
 #[cfg(test)]
+mod bounded;
+#[cfg(test)]
 mod closures;
 #[cfg(test)]
 mod example;

@@ -5,8 +5,8 @@ ghost use Rattle.std.specs.Iterator.{IsFinite};
 use conformance_rows::{Pattern, push_span};
 use regress::backends::{self, DefaultExecutor, PikeVMExecutor, Utf8Input};
 use regress::{
-    CompiledRegex, Error, Flags, Match, Range, Regex, Scratch, Tables, are_code_points,
-    is_ascii_text, is_start, is_unit_start,
+    CompiledRegex, Error, Flags, Match, Range, Regex, Scratch, SearchError, Tables,
+    are_code_points, is_ascii_text, is_start, is_unit_start,
 };
 use regress_engine_inputs::{Ucs2Input, Utf16Input};
 use std::alloc::{AllocError, Global};
@@ -139,6 +139,30 @@ pub(crate) fn default_matches(
     }
     if matches.next().is_some() {
         told.push_str(" and more")?;
+    }
+    Ok(told)
+}
+
+/// The matches by `find_from` of a pattern that may take so many steps.
+pub(crate) fn bounded_matches(
+    alloc: Global,
+    regex: &Regex,
+    text: &str,
+    start: usize,
+) -> Result<String, AllocError> {
+    if !is_start(text, start) {
+        return String::from_str(alloc, "no start");
+    }
+    let Ok(matches) = regex.within(usize::MAX).find_from(text, start) else {
+        return Err(AllocError);
+    };
+    let mut told = String::new(alloc);
+    for found in matches {
+        match found {
+            Ok(found) => push_match(&mut told, &found)?,
+            Err(SearchError::TooManySteps) => told.push_str(" and too many steps")?,
+            Err(SearchError::OutOfMemory) => return Err(AllocError),
+        }
     }
     Ok(told)
 }

@@ -1,10 +1,10 @@
 //! Rows, tried by every road.
 
 use crate::calls::{
-    ascii_matches, between_ends, compiled, compiled_points, copying_ascii_matches, copying_matches,
-    copying_ucs2_matches, copying_utf16_matches, default_matches, find_into, is_match, match_at,
-    match_into, of_programs, ucs2_matches, undoing_matches, units_program, utf16_matches,
-    whole_text,
+    ascii_matches, between_ends, bounded_matches, compiled, compiled_points, copying_ascii_matches,
+    copying_matches, copying_ucs2_matches, copying_utf16_matches, default_matches, find_into,
+    is_match, match_at, match_into, of_programs, ucs2_matches, undoing_matches, units_program,
+    utf16_matches, whole_text,
 };
 use crate::report::{Report, told_error};
 use crate::works::{
@@ -85,6 +85,11 @@ fn try_text(
         "find_from",
         expected,
         default_matches(alloc, regex, text, start),
+    )?;
+    report.compare(
+        "find_from within usize::MAX steps",
+        expected,
+        bounded_matches(alloc, regex, text, start),
     )?;
     report.compare(
         "find by undoing",

@@ -27,7 +27,9 @@ pub use laws::{
 };
 pub use limited::DEFAULT_LIMIT;
 pub use regress_bounded::{Bounded, BoundedMatches};
-pub use regress_engine::{CompiledRegex, Scratch, SearchError, is_unit_start, is_well_formed_utf16};
+pub use regress_engine::{
+    CompiledRegex, Scratch, SearchError, is_unit_start, is_well_formed_utf16,
+};
 pub use regress_errors::{
     CompileError, SyntaxError, SyntaxErrorDisplay, syntax_error, syntax_error_in_points,
     syntax_error_in_units,

@@ -15,8 +15,9 @@ impl Regex {
     /// have the names of the calls here, and answer the same, or err with `TooManySteps` where they would take more steps. So a
     /// pattern of a stranger cannot keep a program busy. It takes no memory.
     ///
-    /// A step does the instruction of one state, or drops the state. What takes characters of one class, and a search for the
-    /// next place where a match may begin, is one step however long it is.
+    /// A step does the instruction of one state, or drops the state. One more is counted for each 64 bytes or units that a class
+    /// passes over or that a back reference compares. A search for the next place where a match may begin is one step however
+    /// long it is.
     ///
     /// ```rust
     /// for found in regex.within(1_000_000).find_iter("aab ab")? {

@@ -59,7 +59,16 @@ impl<'r> Bounded<'r> {
         let program = &self.compiled.byte_program;
         let input = Utf8Input::new(text, program.flags().is_unicode(), program.tables());
         let (alloc, steps) = (self.alloc, self.steps);
-        find_into_within(alloc, scratch, program, input, Anchored::No, start, steps, slots)
+        find_into_within(
+            alloc,
+            scratch,
+            program,
+            input,
+            Anchored::No,
+            start,
+            steps,
+            slots,
+        )
     }
 
     /// The match that begins at `start`, an offset in bytes, with no search ("RegExpBuiltinExec" with `y`), as `match_at` answers
@@ -95,7 +104,16 @@ impl<'r> Bounded<'r> {
         let program = &self.compiled.byte_program;
         let input = Utf8Input::new(text, program.flags().is_unicode(), program.tables());
         let (alloc, steps) = (self.alloc, self.steps);
-        find_into_within(alloc, scratch, program, input, Anchored::Yes, start, steps, slots)
+        find_into_within(
+            alloc,
+            scratch,
+            program,
+            input,
+            Anchored::Yes,
+            start,
+            steps,
+            slots,
+        )
     }
 
     /// The first match in units of UTF-16 from `start` on, as `find_from_utf16` has it, written to `slots` as `find_into` does.
@@ -129,7 +147,16 @@ impl<'r> Bounded<'r> {
         let program = &self.compiled.unit_program;
         let input = Utf16Input::new(units, program.flags().is_unicode(), program.tables());
         let (alloc, steps) = (self.alloc, self.steps);
-        find_into_within(alloc, scratch, program, input, Anchored::No, start, steps, slots)
+        find_into_within(
+            alloc,
+            scratch,
+            program,
+            input,
+            Anchored::No,
+            start,
+            steps,
+            slots,
+        )
     }
 
     /// The match that begins at `start` in units of UTF-16, as `match_at_utf16` answers it, written to `slots` as `find_into` does.
@@ -164,7 +191,16 @@ impl<'r> Bounded<'r> {
         let program = &self.compiled.unit_program;
         let input = Utf16Input::new(units, program.flags().is_unicode(), program.tables());
         let (alloc, steps) = (self.alloc, self.steps);
-        find_into_within(alloc, scratch, program, input, Anchored::Yes, start, steps, slots)
+        find_into_within(
+            alloc,
+            scratch,
+            program,
+            input,
+            Anchored::Yes,
+            start,
+            steps,
+            slots,
+        )
     }
 
     /// The first match in 16-bit units that are each one character from `start` on, as `find_from_ucs2` has it, written to
@@ -195,7 +231,16 @@ impl<'r> Bounded<'r> {
         let program = &self.compiled.unit_program;
         let input = Ucs2Input::new(units, program.flags().is_unicode(), program.tables());
         let (alloc, steps) = (self.alloc, self.steps);
-        find_into_within(alloc, scratch, program, input, Anchored::No, start, steps, slots)
+        find_into_within(
+            alloc,
+            scratch,
+            program,
+            input,
+            Anchored::No,
+            start,
+            steps,
+            slots,
+        )
     }
 
     /// The match that begins at `start` in 16-bit units that are each one character, as `match_at_ucs2` answers it, written to
@@ -227,6 +272,15 @@ impl<'r> Bounded<'r> {
         let program = &self.compiled.unit_program;
         let input = Ucs2Input::new(units, program.flags().is_unicode(), program.tables());
         let (alloc, steps) = (self.alloc, self.steps);
-        find_into_within(alloc, scratch, program, input, Anchored::Yes, start, steps, slots)
+        find_into_within(
+            alloc,
+            scratch,
+            program,
+            input,
+            Anchored::Yes,
+            start,
+            steps,
+            slots,
+        )
     }
 }

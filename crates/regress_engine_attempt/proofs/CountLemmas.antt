@@ -13,7 +13,8 @@ use Rattle.regress_engine_search.proofs.TaskLemmas.{leads-then, leads-same}
 use Rattle.regress_engine_undo.specs.declared.undo.Spot.{Spot}
 use Rattle.regress_engine_undo.specs.Held.{Held, pushed}
 use Rattle.regress_engine_undo.specs.Tasks.{task}
-use Rattle.regress_engine_attempt.specs.Counting.{counted, Spends, most_counted, RunsIn, CountsRun}
+use Rattle.regress_engine_search.specs.Budgets.{counted, Spends}
+use Rattle.regress_engine_attempt.specs.Counting.{most_counted, RunsIn, CountsRun}
 use Rattle.regress_engine_attempt.specs.Passing.{GoesBackMore, Passes, UndoesMore}
 use Rattle.regress_engine_attempt.specs.Trying.{World, Undoes}
 

@@ -1,20 +1,11 @@
 -- How many steps a run takes, and how many of them are counted.
-use Rattle.std.specs.Prelude.{◌≡◌, ℕ, ◌+◌, ◌-◌, ◌*◌, ◌/◌, ◌≤◌, nat_le, length, Bool, true, [], ◌∷◌, Option, Some, None}
+use Rattle.std.specs.Prelude.{ℕ, ◌+◌, ◌*◌, ◌/◌, length, [], ◌∷◌, Option}
 use Rattle.regress_meaning.specs.Meaning.{Forward}
 use Rattle.regress_engine_input.specs.Views.{View, input_of}
 use Rattle.regress_engine_insn.specs.Instructions.{Program}
 use Rattle.regress_engine_runs.specs.States.{Whole, first_state}
 use Rattle.regress_engine_runs.specs.Runs.{Run}
-
--- Whether so many steps may still be counted, and how many may be then: where there is no bound, always.
-abbrev pub counted : (steps : ℕ) → Option ℕ → Bool × Option ℕ
-counted steps None = (true, None)
-counted steps (Some left) = (nat_le steps left, Some (left - steps))
-
--- From so many steps that may be counted to so many, if there is a bound, at most n were counted.
-abbrev pub Spends : Option ℕ → Option ℕ → (n : ℕ) → Type 0
-Spends None after n = after ≡ None
-Spends (Some before) after n = (left : ℕ) × (after ≡ Some left) × (left ≤ before) × (before ≤ left + n)
+use Rattle.regress_engine_search.specs.Budgets.{Spends}
 
 -- how many steps are counted at most where a run takes so many: each may pass over the text, and one more is counted for each 64
 -- units of it

@@ -2,5 +2,4 @@ pub mod Trying
 pub mod Attempts
 pub mod Remembering
 pub mod Counting
-pub mod Ending
 pub mod Passing

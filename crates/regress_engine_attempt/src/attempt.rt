@@ -1,5 +1,5 @@
 //! A run of a program from one offset of a text.
-ghost use Rattle.std.specs.Prelude.{◌+◌, ◌^◌, ◌<◌, [], ◌∷◌};
+ghost use Rattle.std.specs.Prelude.{◌≡◌, ◌+◌, ◌^◌, ◌<◌, [], ◌∷◌, length};
 ghost use Rattle.regress_meaning.specs.Meaning.{Forward as forward};
 ghost use Rattle.regress_engine_insn.specs.Instructions.{Instruction, Stands};
 ghost use Rattle.regress_engine_insn.specs.InsnViews.{instruction};
@@ -36,5 +36,13 @@ impl<'a, Input: ExecutorInput> Attempt<'a, Input> {
     {
         let insns = self.program.insns();
         &insns[at]
+    }
+
+    /// How many units the text has.
+    #[inline]
+    pub(crate) fn text_len(&self) -> usize
+        ensures { result ≡ length (Input.view self.now.input).units }
+    {
+        self.input.pos_to_offset(self.input.right_end())
     }
 }

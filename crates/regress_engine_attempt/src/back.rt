@@ -147,7 +147,7 @@ impl<'a, Input: ExecutorInput> Attempt<'a, Input> {
 
     /// What `advance` answers. What is often repeated is done at once.
     #[inline(always)]
-    fn once(
+    pub(crate) fn once(
         &self,
         insn: &Insn,
         forward: bool,
@@ -307,14 +307,7 @@ impl<'a, Input: ExecutorInput> Attempt<'a, Input> {
             return Ok(true);
         }
         let insn = self.instruction(at - 1);
-        let Some(next) = advance(
-            self.program,
-            &self.input,
-            insn,
-            spot.forward,
-            &memory.groups,
-            way.offset,
-        ) else {
+        let Some(next) = self.once(insn, spot.forward, &memory.groups, way.offset) else {
             return Ok(true);
         };
         memory.push(Undo::TakeOn {

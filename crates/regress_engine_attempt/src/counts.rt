@@ -6,7 +6,7 @@ ghost use Rattle.std.specs.Prelude.{◌≡◌, ◌+◌, ◌/◌, ◌≤◌, ℕ}
 pub(crate) struct Counts {
     /// How much may still be undone or passed over before failures are kept: a place counts one, a record four.
     pub(crate) spare: usize,
-    /// How many steps more are to be counted, for places that were passed over at once: one for each 64 units.
+    /// How many steps more are to be counted, for places that were passed over or compared at once: one for each 64 units.
     pub(crate) more: usize,
 }
 

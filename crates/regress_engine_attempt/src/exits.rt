@@ -20,7 +20,7 @@ ghost use Rattle.regress_engine_attempt.specs.Trying.{Does, IsHeldIn, Undoes};
 
 use crate::attempt::Attempt;
 use crate::counts::Counts;
-use regress_engine_advance::{advance, after_times, beside, taken_first};
+use regress_engine_advance::{after_times, beside, taken_first};
 use regress_engine_insn::Insn;
 use regress_engine_memory::Failures;
 use regress_engine_search::ExecutorInput;
@@ -62,15 +62,8 @@ impl<'a, Input: ExecutorInput> Attempt<'a, Input> {
         let Some(insn) = taken_first(self.program, exit.at) else {
             return true;
         };
-        advance(
-            self.program,
-            &self.input,
-            insn,
-            exit.forward,
-            &memory.groups,
-            exit.offset,
-        )
-        .is_some()
+        self.once(insn, exit.forward, &memory.groups, exit.offset)
+            .is_some()
     }
 
     /// Whether an exit of a one-character loop surely fails: what is taken first there doesn't stand, or it is known.
@@ -96,14 +89,7 @@ impl<'a, Input: ExecutorInput> Attempt<'a, Input> {
         requires place { IsAtPlace (reading_of (Input.view self.now.input)) exit.now.offset }
         ensures { result ≡ true → RestFails (world Input.view self.now) failures.now (instruction body.now) exit.now (held memory.now) }
     {
-        let Some(next) = advance(
-            self.program,
-            &self.input,
-            body,
-            exit.forward,
-            &memory.groups,
-            exit.offset,
-        ) else {
+        let Some(next) = self.once(body, exit.forward, &memory.groups, exit.offset) else {
             return true;
         };
         let further = Spot {
@@ -153,7 +139,7 @@ impl<'a, Input: ExecutorInput> Attempt<'a, Input> {
         requires place { IsAtPlace (reading_of (Input.view self.now.input)) from.now.offset }
         ensures { AreOf (world Input.view self.now) failures.new }
     {
-        let last = self.input.pos_to_offset(self.input.right_end());
+        let last = self.text_len();
         let mut offset = from.offset;
         for passed in 0..last {
             let exit = Spot {
@@ -194,14 +180,7 @@ impl<'a, Input: ExecutorInput> Attempt<'a, Input> {
             offset: far,
             forward,
         };
-        let Some(next) = advance(
-            self.program,
-            &self.input,
-            body,
-            forward,
-            &memory.groups,
-            far,
-        ) else {
+        let Some(next) = self.once(body, forward, &memory.groups, far) else {
             self.learn_back(body, &last, memory, failures);
             return;
         };
@@ -281,40 +260,18 @@ impl<'a, Input: ExecutorInput> Attempt<'a, Input> {
                 offset: near,
                 forward,
             };
-            if failures.are_exits_known(&exit, memory.loops()) {
-                return Exit {
-                    offset: near,
-                    left: rest,
-                    may_go: false,
-                };
+            let is_known = failures.are_exits_known(&exit, memory.loops());
+            let may_go = !is_known && !self.exit_fails(&exit, memory, failures);
+            let here = Exit {
+                offset: near,
+                left: rest,
+                may_go,
+            };
+            if is_known || may_go || rest == 0 {
+                return here;
             }
-            if !self.exit_fails(&exit, memory, failures) {
-                return Exit {
-                    offset: near,
-                    left: rest,
-                    may_go: true,
-                };
-            }
-            if rest == 0 {
-                return Exit {
-                    offset: near,
-                    left: rest,
-                    may_go: false,
-                };
-            }
-            let Some(next) = advance(
-                self.program,
-                &self.input,
-                body,
-                forward,
-                &memory.groups,
-                near,
-            ) else {
-                return Exit {
-                    offset: near,
-                    left: rest,
-                    may_go: false,
-                };
+            let Some(next) = self.once(body, forward, &memory.groups, near) else {
+                return here;
             };
             near = next;
             rest -= 1;
@@ -392,14 +349,7 @@ impl<'a, Input: ExecutorInput> Attempt<'a, Input> {
             return None;
         }
         'places: while rest > 0 {
-            let Some(next) = advance(
-                self.program,
-                &self.input,
-                body,
-                forward,
-                &memory.groups,
-                far,
-            ) else {
+            let Some(next) = self.once(body, forward, &memory.groups, far) else {
                 return Some(far);
             };
             let further = Spot {
@@ -447,6 +397,7 @@ impl<'a, Input: ExecutorInput> Attempt<'a, Input> {
             &memory.groups,
             spot.offset,
         ) else {
+            counts.pass(0, least.min(self.text_len()));
             return Ok(false);
         };
         let left = most - least;

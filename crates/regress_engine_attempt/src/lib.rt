@@ -4,7 +4,6 @@
 
 mod attempt;
 mod back;
-mod budget;
 mod counts;
 mod exits;
 mod remembered;
@@ -15,5 +14,4 @@ mod turns;
 mod ways;
 
 pub use attempt::Attempt;
-pub use budget::{Budget, Ended, StepsLeft, Unbounded};
 pub use remembered::Remembered;

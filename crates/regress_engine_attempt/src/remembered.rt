@@ -107,7 +107,7 @@ impl<'a, Input: ExecutorInput> Attempt<'a, Input> {
         ensures { result ≡ nat_lt (room (length (Input.view self.now.input).units) (direction_of spot.now.forward) spot.now.offset)
             (need (needs_of failures.now.table) spot.now.at) }
     {
-        let last = self.input.pos_to_offset(self.input.right_end());
+        let last = self.text_len();
         let left = if spot.forward {
             last.saturating_sub(spot.offset)
         } else {
@@ -170,7 +170,7 @@ impl<'a, Input: ExecutorInput> Attempt<'a, Input> {
         else {
             return Ok(None);
         };
-        if *max_iters < self.input.pos_to_offset(self.input.right_end()) {
+        if *max_iters < self.text_len() {
             return Ok(None);
         }
         let going = self.repeat_known(
@@ -284,7 +284,7 @@ impl<'a, Input: ExecutorInput> Attempt<'a, Input> {
         let Undo::Tried { at, offset } = undo else {
             return;
         };
-        let last = self.input.pos_to_offset(self.input.right_end());
+        let last = self.text_len();
         let there = Spot {
             at: *at,
             offset: *offset,

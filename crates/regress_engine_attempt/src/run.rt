@@ -7,14 +7,13 @@ ghost use Rattle.regress_engine_search.specs.Search.{Suits};
 ghost use Rattle.regress_engine_undo.specs.Held.{held};
 ghost use Rattle.regress_engine_attempt.specs.Attempts.{world};
 ghost use Rattle.regress_engine_attempt.specs.Counting.{CountsRun};
-ghost use Rattle.regress_engine_attempt.specs.Ending.{IfEnded, IfStopped};
+ghost use Rattle.regress_engine_search.specs.Ending.{IfEnded, IfStopped};
 ghost use Rattle.regress_engine_attempt.specs.Remembering.{Remembers};
 ghost use Rattle.regress_engine_attempt.specs.Trying.{IsWay, ReadsFrom};
 
 use crate::attempt::Attempt;
-use crate::budget::{Budget, Ended, Unbounded};
 use crate::remembered::Remembered;
-use regress_engine_search::ExecutorInput;
+use regress_engine_search::{Budget, Ended, ExecutorInput, Unbounded};
 use regress_engine_undo::{Memory, Spot};
 use regress_front_core::GroupData;
 use std::alloc::AllocError;
@@ -50,8 +49,8 @@ impl<'a, Input: ExecutorInput> Attempt<'a, Input> {
     }
 
     /// Runs the program as `run` does, and counts each step against a budget: each instruction that is done, or state that is
-    /// dropped, and one more for each 64 units that a one-character loop passes over. It answers what the run does, or that no more
-    /// steps may be counted. It has never counted more than the run takes, where each of its steps may pass over the whole text.
+    /// dropped, and one more for each 64 units that a one-character loop passes over, or has to take and may not, or that a back
+    /// reference compares. It answers what the run does, or that no more steps may be counted. It has never counted more than the run takes, where each of its steps may pass over the whole text.
     ///
     /// ```rust
     /// let ended = attempt.run_within(0, &mut memory, &mut answer, &mut remembered, &mut budget)?;

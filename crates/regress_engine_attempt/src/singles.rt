@@ -46,6 +46,7 @@ impl<'a, Input: ExecutorInput> Attempt<'a, Input> {
             &memory.groups,
             spot.offset,
         ) else {
+            counts.pass(0, least.min(self.text_len()));
             return Ok(false);
         };
         let left = most - least;

@@ -1,5 +1,5 @@
 //! One step of a run.
-ghost use Rattle.std.specs.Prelude.{◌≡◌, ◌+◌, ◌^◌, ◌<◌, true, IfOk, IfSome, OnOk};
+ghost use Rattle.std.specs.Prelude.{◌≡◌, ◌+◌, ◌^◌, ◌<◌, true, length, IfOk, IfSome, OnOk};
 ghost use Rattle.regress_engine_insn.specs.Instructions.{Instruction, Stands, loop_again};
 ghost use Rattle.regress_engine_insn.specs.InsnViews.{instruction};
 ghost use Rattle.regress_engine_code.specs.Standing.{program_of};
@@ -99,6 +99,19 @@ impl<'a, Input: ExecutorInput> Attempt<'a, Input> {
         spot.at += 1;
         spot.offset = next;
         true
+    }
+
+    /// Counts what a back reference compares at most: what its group took.
+    #[inline]
+    fn count_reference(&self, group: usize, memory: &Memory, counts: &mut Counts)
+        requires { group < length (held memory.now).groups }
+        ensures { Passes (Input.view self.now.input) 1 counts.old.more counts.new.more }
+    {
+        let marks = memory.group_data(group);
+        if let (Some(start), Some(end)) = (marks.start, marks.end) {
+            let last = self.text_len();
+            counts.pass(start.min(last), end.min(last));
+        }
     }
 
     /// Ends an iteration of the repetition that begins at an address, and answers whether it continues.
@@ -234,6 +247,11 @@ impl<'a, Input: ExecutorInput> Attempt<'a, Input> {
                 let target = *continuation as usize;
                 begin_atomic(*start_group, *end_group, target, memory, spot)?;
                 Ok(Some(true))
+            }
+            Insn::BackRef { group, .. } => {
+                self.count_reference(*group as usize, memory, counts);
+                let going = self.take(insn, memory, spot);
+                Ok(Some(going))
             }
             _ => {
                 let going = self.take(insn, memory, spot);

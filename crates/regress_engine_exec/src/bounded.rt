@@ -16,9 +16,9 @@ ghost use Rattle.regress_engine_exec.specs.Counting.{CountsSearch};
 use crate::error::SearchError;
 use crate::finding::{first_from, run_within};
 use crate::scratch::Scratch;
-use regress_engine_attempt::{Ended, Remembered, StepsLeft};
+use regress_engine_attempt::Remembered;
 use regress_engine_code::CompiledRegex;
-use regress_engine_search::{ExecutorInput, SearchContext, Shown, fill_slots};
+use regress_engine_search::{Ended, ExecutorInput, SearchContext, Shown, StepsLeft, fill_slots};
 use regress_match::{Match, Range};
 use std::alloc::Global;
 

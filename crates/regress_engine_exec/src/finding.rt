@@ -4,18 +4,18 @@ ghost use Rattle.regress_engine_code.specs.Standing.{program_of};
 ghost use Rattle.regress_engine_input.specs.Views.{input_of, reading_of};
 ghost use Rattle.regress_engine_runs.specs.Meets.{IsAtPlace};
 ghost use Rattle.regress_engine_search.specs.Answering.{IsAnswer, IsFound};
+ghost use Rattle.regress_engine_search.specs.Ending.{IfEnded, IfStopped};
 ghost use Rattle.regress_engine_attempt.specs.Attempts.{searched};
 ghost use Rattle.regress_engine_attempt.specs.Counting.{CountsRun};
-ghost use Rattle.regress_engine_attempt.specs.Ending.{IfEnded, IfStopped};
 ghost use Rattle.regress_engine_attempt.specs.Remembering.{Remembers};
 ghost use Rattle.regress_engine_exec.specs.Counting.{CountsSearch};
 ghost use Rattle.regress_engine_exec.specs.Searches.{groups_of};
 
 use crate::scratch::Scratch;
 use regress_engine_advance::beside;
-use regress_engine_attempt::{Attempt, Budget, Ended, Remembered};
+use regress_engine_attempt::{Attempt, Remembered};
 use regress_engine_leading::{Beginning, known_at};
-use regress_engine_search::{ExecutorInput, SearchContext};
+use regress_engine_search::{Budget, Ended, ExecutorInput, SearchContext};
 use std::alloc::AllocError;
 
 /// Searches from an offset on, where the text goes on as the program's start predicate says. It answers the offset from which the

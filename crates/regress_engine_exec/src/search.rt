@@ -16,10 +16,10 @@ ghost use Rattle.regress_engine_attempt.specs.Remembering.{Remembers};
 
 use crate::finding::{first_from, run_from};
 use crate::scratch::Scratch;
-use regress_engine_attempt::{Ended, Remembered, Unbounded};
+use regress_engine_attempt::Remembered;
 use regress_engine_code::CompiledRegex;
 use regress_engine_inputs::Utf8Input;
-use regress_engine_search::{ExecutorInput, SearchContext, Shown, fill_slots};
+use regress_engine_search::{Ended, ExecutorInput, SearchContext, Shown, Unbounded, fill_slots};
 use regress_match::{Match, MatchProducer, Range};
 use std::alloc::{AllocError, Global};
 

@@ -1,11 +1,14 @@
 //! A byte that stands by each match, and where it leads.
-ghost use Rattle.std.specs.Prelude.{◌≡◌, ◌-◌, ◌<◌, ◌≤◌, ℕ, true, false, Some, length, slice_get, IfSome};
+ghost use Rattle.std.specs.Prelude.{◌≡◌, ◌-◌, ◌<◌, ◌≤◌, ℕ, ⊤, true, false, Some, length, map, slice_get, IfSome};
 ghost use Rattle.memchr.specs.Find.{IsFirst};
 ghost use Rattle.regress_meaning.specs.Meaning.{is_some_and};
+ghost use Rattle.regress_front_bytes.specs.declared.bitmaps.ByteBitmap.{ByteBitmap};
 ghost use Rattle.regress_front_bytes.specs.Bitmaps.{byte_bitmap_contains};
 ghost use Rattle.regress_engine_scanning.specs.Least.{IsLeast};
-ghost use Rattle.regress_engine_scanning.specs.Landmarks.{begins_by};
+ghost use Rattle.regress_engine_scanning.specs.Landmarks.{IsLow, begins_by};
+ghost use Rattle.regress_engine_scanning.specs.Units.{AreAscii};
 
+use crate::units::{find_member, is_byte_of};
 use memchr::memchr;
 use regress_front_bytes::ByteBitmap;
 
@@ -18,57 +21,103 @@ pub enum Landmark {
     BehindRun { run: ByteBitmap, byte: u8 },
 }
 
-/// Where a byte first stands from an index on.
-fn next_byte(byte: u8, bytes: &[u8], from: usize) -> Option<usize>
-    requires { from ≤ length bytes.now }
-    ensures least { IsLeast (λ k. slice_get bytes.now k ≡ Some byte) from result }
-    ensures inside { IfSome result (λ k. k < length bytes.now) }
-{
-    let index = memchr(byte, &bytes[from..])?;
-    Some(from + index)
+/// A unit of a text, a byte or 16 bits. Each byte is the unit of the same number.
+trait Unit: Copy {
+    // the number of a unit
+    ghost number: { Self → ℕ };
+
+    // what a set of bytes must meet, so that units can be looked up in it
+    ghost Fits: { ByteBitmap → Type 0 };
+
+    /// Where a byte first stands from an index on.
+    fn next(byte: u8, units: &[Self], from: usize) -> Option<usize>
+        requires { from ≤ length units.now }
+        ensures least { IsLeast (λ k. slice_get (map number units.now) k ≡ Some byte) from result }
+        ensures inside { IfSome result (λ k. k < length units.now) };
+
+    /// Whether a unit is a byte of a set.
+    fn is_in(self, set: &ByteBitmap) -> bool
+        requires { Fits set.now }
+        ensures { result ≡ byte_bitmap_contains set.now (number self) };
+}
+
+impl Unit for u8 {
+    ghost number = { λ unit. unit };
+
+    ghost Fits = { λ _. ⊤ };
+
+    fn next(byte: u8, units: &[u8], from: usize) -> Option<usize> {
+        let index = memchr(byte, &units[from..])?;
+        Some(from + index)
+    }
+
+    #[inline(always)]
+    fn is_in(self, set: &ByteBitmap) -> bool {
+        set.contains(self)
+    }
+}
+
+impl Unit for u16 {
+    ghost number = { λ unit. unit };
+
+    ghost Fits = { λ set. AreAscii (byte_bitmap_contains set) };
+
+    #[inline(always)]
+    fn next(byte: u8, units: &[u16], from: usize) -> Option<usize> {
+        find_member(&[byte], units, from)
+    }
+
+    #[inline(always)]
+    fn is_in(self, set: &ByteBitmap) -> bool {
+        is_byte_of(set, self)
+    }
 }
 
 /// Whether a byte of a set stands at an index.
-fn stands_at(set: &ByteBitmap, bytes: &[u8], index: usize) -> bool
-    ensures { result ≡ is_some_and (slice_get bytes.now index) (byte_bitmap_contains set.now) }
+#[inline(always)]
+fn stands_at<U: Unit>(set: &ByteBitmap, units: &[U], index: usize) -> bool
+    requires { U.Fits set.now }
+    ensures { result ≡ is_some_and (slice_get (map U.number units.now) index) (byte_bitmap_contains set.now) }
 {
-    match bytes.get(index) {
-        Some(byte) => set.contains(*byte),
+    match units.get(index) {
+        Some(unit) => unit.is_in(set),
         None => false,
     }
 }
 
 /// Where a byte of a set first stands from an index up to another.
-fn first_in(set: &ByteBitmap, bytes: &[u8], from: usize, to: usize) -> Option<usize>
-    requires { (from ≤ to) × (to ≤ length bytes.now) }
-    ensures { IsFirst (λ k. is_some_and (slice_get bytes.now k) (byte_bitmap_contains set.now) ≡ true) from to result }
+fn first_in<U: Unit>(set: &ByteBitmap, units: &[U], from: usize, to: usize) -> Option<usize>
+    requires fits { U.Fits set.now }
+    requires inside { (from ≤ to) × (to ≤ length units.now) }
+    ensures { IsFirst (λ k. is_some_and (slice_get (map U.number units.now) k) (byte_bitmap_contains set.now) ≡ true) from to result }
 {
     for index in from..to {
-        if stands_at(set, bytes, index) {
+        if stands_at(set, units, index) {
             return Some(index);
         }
     }
     None
 }
 
-/// The first offset from one on at which a byte of a set stands, and so many bytes further on another byte.
-fn find_ahead(
+/// The first offset from one on at which a byte of a set stands, and so many units further on another byte.
+fn find_ahead<U: Unit>(
     first: &ByteBitmap,
     distance: usize,
     byte: u8,
-    text: &[u8],
+    units: &[U],
     offset: usize,
 ) -> Option<usize>
-    requires { offset ≤ length text.now }
-    ensures { IsLeast (λ k. begins_by first.now (Landmark.Ahead distance byte) text.now k ≡ true) offset result }
+    requires fits { U.Fits first.now }
+    requires inside { offset ≤ length units.now }
+    ensures { IsLeast (λ k. begins_by first.now (Landmark.Ahead distance byte) (map U.number units.now) k ≡ true) offset result }
 {
-    if distance > text.len() - offset {
+    if distance > units.len() - offset {
         return None;
     }
     let mut from = offset + distance;
-    while let Some(at) = next_byte(byte, text, from) {
+    while let Some(at) = U::next(byte, units, from) {
         let start = at - distance;
-        if stands_at(first, text, start) {
+        if stands_at(first, units, start) {
             return Some(start);
         }
         from = at + 1;
@@ -76,16 +125,17 @@ fn find_ahead(
     None
 }
 
-/// From where on the bytes up to an index are all of a set, but for those in front of another index.
-fn run_start(run: &ByteBitmap, bytes: &[u8], from: usize, to: usize) -> usize
-    requires { (from ≤ to) × (to ≤ length bytes.now) }
+/// From where on the units up to an index are all of a set, but for those in front of another index.
+fn run_start<U: Unit>(run: &ByteBitmap, units: &[U], from: usize, to: usize) -> usize
+    requires fits { U.Fits run.now }
+    requires inside { (from ≤ to) × (to ≤ length units.now) }
     ensures inside { (from ≤ result) × (result ≤ to) }
-    ensures run { (j : ℕ) → result ≤ j → j < to → is_some_and (slice_get bytes.now j) (byte_bitmap_contains run.now) ≡ true }
-    ensures other { from < result → is_some_and (slice_get bytes.now (result - 1)) (byte_bitmap_contains run.now) ≡ false }
+    ensures run { (j : ℕ) → result ≤ j → j < to → is_some_and (slice_get (map U.number units.now) j) (byte_bitmap_contains run.now) ≡ true }
+    ensures other { from < result → is_some_and (slice_get (map U.number units.now) (result - 1)) (byte_bitmap_contains run.now) ≡ false }
 {
     let mut start = to;
     while start > from {
-        if !stands_at(run, bytes, start - 1) {
+        if !stands_at(run, units, start - 1) {
             return start;
         }
         start -= 1;
@@ -94,25 +144,45 @@ fn run_start(run: &ByteBitmap, bytes: &[u8], from: usize, to: usize) -> usize
 }
 
 /// The first offset from one on at which a byte of a set stands, and from which on a byte stands behind other bytes of a run.
-fn find_run(
+fn find_run<U: Unit>(
     first: &ByteBitmap,
     run: ByteBitmap,
     byte: u8,
-    text: &[u8],
+    units: &[U],
     offset: usize,
 ) -> Option<usize>
-    requires { offset ≤ length text.now }
-    ensures { IsLeast (λ k. begins_by first.now (Landmark.BehindRun run byte) text.now k ≡ true) offset result }
+    requires fits { U.Fits first.now }
+    requires run { U.Fits run }
+    requires inside { offset ≤ length units.now }
+    ensures { IsLeast (λ k. begins_by first.now (Landmark.BehindRun run byte) (map U.number units.now) k ≡ true) offset result }
 {
     let mut from = offset;
-    while let Some(at) = next_byte(byte, text, from) {
-        let start = run_start(&run, text, from, at);
-        if let Some(found) = first_in(first, text, start, at) {
+    while let Some(at) = U::next(byte, units, from) {
+        let start = run_start(&run, units, from, at);
+        if let Some(found) = first_in(first, units, start, at) {
             return Some(found);
         }
         from = at + 1;
     }
     None
+}
+
+/// The first offset from one on at which a byte of a set stands, and the byte of a landmark by it.
+fn find<U: Unit>(
+    first: &ByteBitmap,
+    landmark: Landmark,
+    units: &[U],
+    offset: usize,
+) -> Option<usize>
+    requires fits { U.Fits first.now }
+    requires run { (run : ByteBitmap) (byte : ℕ) → landmark ≡ Landmark.BehindRun run byte → U.Fits run }
+    requires inside { offset ≤ length units.now }
+    ensures { IsLeast (λ k. begins_by first.now landmark (map U.number units.now) k ≡ true) offset result }
+{
+    match landmark {
+        Landmark::Ahead { distance, byte } => find_ahead(first, distance, byte, units, offset),
+        Landmark::BehindRun { run, byte } => find_run(first, run, byte, units, offset),
+    }
 }
 
 /// The first offset from one on at which a byte of a set stands, and the byte of a landmark by it. Asks that the offset lies in
@@ -131,8 +201,25 @@ pub fn find_near(
     ensures least { IsLeast (λ k. begins_by first.now landmark text.now k ≡ true) offset result }
     ensures inside { IfSome result (λ k. k ≤ length text.now) }
 {
-    match landmark {
-        Landmark::Ahead { distance, byte } => find_ahead(first, distance, byte, text, offset),
-        Landmark::BehindRun { run, byte } => find_run(first, run, byte, text, offset),
-    }
+    find(first, landmark, text, offset)
+}
+
+/// The first offset from one on at which a byte of a set stands, and the byte of a landmark by it. Asks that all bytes that are
+/// told are below 0x80, and that the offset lies among the units.
+///
+/// ```rust
+/// let start = find_near_units(&digits, Landmark::Ahead { distance: 1, byte: b'-' }, &[0x37, 0x2D], 0); // `Some(0)`
+/// ```
+pub fn find_near_units(
+    first: &ByteBitmap,
+    landmark: Landmark,
+    units: &[u16],
+    offset: usize,
+) -> Option<usize>
+    requires ascii { AreAscii (byte_bitmap_contains first.now) }
+    requires low { IsLow landmark }
+    requires inside { offset ≤ length units.now }
+    ensures { IsLeast (λ k. begins_by first.now landmark units.now k ≡ true) offset result }
+{
+    find(first, landmark, units, offset)
 }

@@ -8,3 +8,5 @@ pub mod Search
 pub mod Skipping
 pub mod SearchProps
 pub mod Searching
+pub mod Budgets
+pub mod Ending

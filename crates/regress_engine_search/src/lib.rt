@@ -2,6 +2,7 @@
 //! steps. The definitions stand in `specs/`, and their laws are functions whose contract is the law.
 #![tactic(auto)]
 
+mod budget;
 mod captured;
 mod context;
 mod executor;
@@ -10,6 +11,7 @@ mod prefilter;
 mod shown;
 mod submatch;
 
+pub use budget::{Budget, Ended, StepsLeft, Unbounded};
 pub use captured::fill_slots;
 pub use context::SearchContext;
 pub use executor::{AnyText, AsciiText, Executor, TextKind};

@@ -12,7 +12,7 @@ use Rattle.regress_engine_search.proofs.SkipLemmas.{place-lies}
 use Rattle.regress_engine_singles.specs.Passed.{PassesOver}
 use Rattle.regress_engine_undo.specs.Held.{held}
 use Rattle.regress_engine_leading.specs.Known.{IsKnown}
-use Rattle.regress_engine_attempt.specs.Ending.{IfEnded}
+use Rattle.regress_engine_search.specs.Ending.{IfEnded}
 use Rattle.regress_engine_attempt.proofs.WayLemmas.{way-comes}
 use Rattle.regress_engine_exec.proofs.CountLemmas.{counts-first, counts-past, counts-over, counts-ends, counts-on, counted-answer}
 use Rattle.regress_engine_exec.proofs.finding.first_from.Goals as goal

@@ -1,8 +1,8 @@
-use Rattle.std.proofs.Common.{◌≡◌, ℕ, ◌<◌, ◌≤◌, true, slice_get}
-use Rattle.regress_meaning.specs.Meaning.{is_some_and}
+use Rattle.std.proofs.Common.{map}
 use Rattle.regress_front_bytes.specs.Bitmaps.{byte_bitmap_contains}
+use Rattle.regress_engine_scanning.proofs.ScanLemmas.{NoneTo}
 use Rattle.regress_engine_scanning.proofs.landmark.first_in.Given as goal
 
 -- none so far
 abbrev pub invariant-loop-index : goal.invariant-loop-index
-invariant-loop-index l = (k : ℕ) → l.from ≤ k → k < l.index → ¬ (is_some_and (slice_get l.bytes k) (byte_bitmap_contains l.set) ≡ true)
+invariant-loop-index g l = NoneTo (byte_bitmap_contains l.set) (map g.U.Unit.number l.units) l.from l.index

@@ -33,8 +33,8 @@ instruction-body-requires g c = (c.requires.body.0, c.requires.body.1)
 pub exit_fails-requires-clause-place : goal.exit_fails-requires-clause-place
 exit_fails-requires-clause-place g c = c.places.invariant.body.3
 
-pub advance-requires-clause-ready : goal.advance-requires-clause-ready
-advance-requires-clause-ready g c =
+pub once-requires-clause-ready : goal.once-requires-clause-ready
+once-requires-clause-ready g c =
     let program = program_of c.args.self.now.program.now in
     let v = g.Input.InputIndexer.view c.args.self.now.input in
     let i = instruction c.instruction-body.result.now in

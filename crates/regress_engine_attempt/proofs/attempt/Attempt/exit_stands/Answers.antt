@@ -10,8 +10,8 @@ use Rattle.regress_engine_advance.proofs.TakenLemmas.{taking-any, taking-ready}
 use Rattle.regress_engine_undo.specs.Held.{held}
 use Rattle.regress_engine_attempt.proofs.attempt.Attempt.exit_stands.Goals as goal
 
-pub advance-requires-clause-ready : goal.advance-requires-clause-ready
-advance-requires-clause-ready g c =
+pub once-requires-clause-ready : goal.once-requires-clause-ready
+once-requires-clause-ready g c =
     let program = program_of c.args.self.now.program.now in
     let v = g.Input.InputIndexer.view c.args.self.now.input in
     let i = instruction c.in-Some.insn.now in
@@ -25,4 +25,4 @@ returns g c none =
     let i = instruction c.in-Some.insn.now in
     let exit = c.args.exit.now in
     c.in-Some.ensures.dead input exit.forward exit.offset
-    (λ gs. none-is _ (sym c.is_some.ensures ∙ none) ∙ c.advance.ensures ∙ taking-any program input i (direction_of exit.forward) (map marks_of c.deref.result.now) gs exit.offset c.in-Some.ensures.takes)
+    (λ gs. none-is _ (sym c.is_some.ensures ∙ none) ∙ c.once.ensures ∙ taking-any program input i (direction_of exit.forward) (map marks_of c.deref.result.now) gs exit.offset c.in-Some.ensures.takes)

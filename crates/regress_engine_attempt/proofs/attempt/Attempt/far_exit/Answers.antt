@@ -30,8 +30,8 @@ places-init g c =
       body = c.requires.body;
     }
 
-pub advance-requires-clause-ready : goal.advance-requires-clause-ready
-advance-requires-clause-ready g c =
+pub once-requires-clause-ready : goal.once-requires-clause-ready
+once-requires-clause-ready g c =
     let program = program_of c.args.self.now.program.now in
     let v = g.Input.InputIndexer.view c.args.self.now.input in
     let i = instruction c.instruction-body.result.now in

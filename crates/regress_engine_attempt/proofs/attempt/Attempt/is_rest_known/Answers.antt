@@ -12,8 +12,8 @@ use Rattle.regress_engine_memory.specs.Remembered.{keyed_of}
 use Rattle.regress_engine_memory.specs.TableViews.{table_of}
 use Rattle.regress_engine_attempt.proofs.attempt.Attempt.is_rest_known.Goals as goal
 
-pub advance-requires-clause-ready : goal.advance-requires-clause-ready
-advance-requires-clause-ready g c =
+pub once-requires-clause-ready : goal.once-requires-clause-ready
+once-requires-clause-ready g c =
     let program = program_of c.args.self.now.program.now in
     let v = g.Input.InputIndexer.view c.args.self.now.input in
     let i = instruction c.args.body.now in

@@ -20,6 +20,6 @@ returns-clause-so g c =
     learned w old c.learn.new.self c.args.spot.now s h (g.met.Input.InputIndexer.are_of_kind c.args.self.now.input) c.requires.suits
     (subst (AreOf w) (sym c.deref_mut.ensures.value) (subst (λ x. IfSome x (λ f. AreOf w f.value)) c.in-Some.is c.requires.so)) c.learn.ensures.table
     (λ program input known fails. c.learn.ensures.known program input known
-    (subst (FailsIfFree program input keyed c.pos_to_offset-last.result s) (sym c.loops.ensures)
-    (subst (λ (last : ℕ). FailsIfFree program input keyed last s h.loops) (sym (c.pos_to_offset-last.ensures ∙ c.right_end.ensures)) fails)))
+    (subst (FailsIfFree program input keyed c.text_len-last.result s) (sym c.loops.ensures)
+    (subst (λ (last : ℕ). FailsIfFree program input keyed last s h.loops) (sym c.text_len-last.ensures) fails)))
     refl c.requires.sound.loops (subst (λ u. IsUnderWay w false c.args.spot.now (pushed (undo_of u) h)) c.in-Tried.is c.requires.tried)

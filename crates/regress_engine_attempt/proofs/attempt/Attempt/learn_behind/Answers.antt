@@ -9,8 +9,8 @@ use Rattle.regress_engine_search.proofs.ReadyLemmas.{body-asked, body-next}
 use Rattle.regress_engine_undo.specs.Held.{held}
 use Rattle.regress_engine_attempt.proofs.attempt.Attempt.learn_behind.Goals as goal
 
-pub advance-requires-clause-ready : goal.advance-requires-clause-ready
-advance-requires-clause-ready g c =
+pub once-requires-clause-ready : goal.once-requires-clause-ready
+once-requires-clause-ready g c =
     let program = program_of c.args.self.now.program.now in
     let v = g.Input.InputIndexer.view c.args.self.now.input in
     let i = instruction c.in-Some.body.now in
@@ -25,6 +25,6 @@ learn_back-requires-2-clause-place g c =
     let v = g.Input.InputIndexer.view c.args.self.now.input in
     let i = instruction c.in-Some.body.now in
     let body = c.in-Some.ensures in
-    (body-next v (g.met.Input.InputIndexer.are_of_kind c.args.self.now.input) program c.requires.suits c.args.at c.args.far c.in-Some-advance.next i (direction_of c.args.forward) (held c.args.memory.now).groups
+    (body-next v (g.met.Input.InputIndexer.are_of_kind c.args.self.now.input) program c.requires.suits c.args.at c.args.far c.in-Some-once.next i (direction_of c.args.forward) (held c.args.memory.now).groups
     (i, body.0, body.1, c.requires.place, body.2) body.0
-    (ap (λ gs. advance program (input_of v) i (direction_of c.args.forward) (map marks_of gs) c.args.far) (sym c.deref.ensures.value) ∙ sym c.in-Some-advance.ensures)).3
+    (ap (λ gs. advance program (input_of v) i (direction_of c.args.forward) (map marks_of gs) c.args.far) (sym c.deref.ensures.value) ∙ sym c.in-Some-once.ensures)).3

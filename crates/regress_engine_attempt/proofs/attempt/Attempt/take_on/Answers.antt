@@ -78,8 +78,8 @@ overflow_sub-at g c = let some = c.near_way-way.ensures.body.4 in omega (arith, 
 pub instruction-insn-requires : goal.instruction-insn-requires
 instruction-insn-requires g c = (c.near_way-way.ensures.body.0, c.near_way-way.ensures.body.1)
 
-pub advance-requires-clause-ready : goal.advance-requires-clause-ready
-advance-requires-clause-ready g c =
+pub once-requires-clause-ready : goal.once-requires-clause-ready
+once-requires-clause-ready g c =
     let program = program_of c.args.self.now.program.now in
     let v = g.Input.InputIndexer.view c.args.self.now.input in
     let was = held-take_on _ _ (held c.args.memory.now) c.args.at c.args.offset c.args.left c.requires.sound in

@@ -1,7 +1,7 @@
 -- How a run or a search ends.
 use Rattle.std.specs.Prelude.{Option}
-use Rattle.regress_engine_attempt.specs.declared.budget.Ended.{Ended}
-use Rattle.regress_engine_attempt.specs.declared.budget.Ended.TheVariants as ending
+use Rattle.regress_engine_search.specs.declared.budget.Ended.{Ended}
+use Rattle.regress_engine_search.specs.declared.budget.Ended.TheVariants as ending
 
 -- it was made to its end, with what was found
 abbrev pub IfEnded : {T : Type 0} → Ended T → (Option T → Type 0) → Type 0

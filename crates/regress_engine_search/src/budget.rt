@@ -1,6 +1,6 @@
 //! How many steps runs may take.
 ghost use Rattle.std.specs.Prelude.{◌≡◌, ◌+◌, ℕ, Option, None, Some, IfSome};
-ghost use Rattle.regress_engine_attempt.specs.Counting.{counted};
+ghost use Rattle.regress_engine_search.specs.Budgets.{counted};
 
 /// What the steps of runs are counted against.
 pub trait Budget {

@@ -1,0 +1,97 @@
+//! Searches that may take so many steps, and no more. By their public calls, as callers would write them.
+
+use crate::told::{compiled, ends};
+use regress::{Match, Regex, SearchError, Tables, is_start};
+use std::alloc::Global;
+use std::test::Fail;
+
+/// Ways of two kinds through each letter, and a back reference, so that no failure is remembered.
+const SLOW: &str = r"((a|a)*)\1b";
+
+/// The text of each match, found in so many steps for all of them.
+fn parts<'t>(
+    alloc: Global,
+    regex: &Regex,
+    text: &'t str,
+    steps: usize,
+) -> Result<Vec<&'t str>, SearchError> {
+    let mut parts = Vec::new(alloc);
+    for found in regex.within(steps).find_iter(text)? {
+        let found = found?;
+        parts.push(found.as_str(text))?;
+    }
+    Ok(parts)
+}
+
+/// The first match from an offset on, in so many steps; `None` inside a character too.
+fn first_from(
+    regex: &Regex,
+    text: &str,
+    start: usize,
+    steps: usize,
+) -> Result<Option<Match>, SearchError> {
+    if !is_start(text, start) {
+        return Ok(None);
+    }
+    regex
+        .within(steps)
+        .find_from(text, start)?
+        .next()
+        .transpose()
+}
+
+/// How many matches come before the search is given up, or the text ends.
+fn count(regex: &Regex, text: &str, steps: usize) -> Result<usize, SearchError> {
+    let mut count = 0usize;
+    for found in regex.within(steps).find_iter(text)? {
+        match found {
+            Ok(_) => count = count.saturating_add(1),
+            Err(SearchError::TooManySteps) => return Ok(count),
+            Err(error) => return Err(error),
+        }
+    }
+    Ok(count)
+}
+
+#[test]
+fn a_search_that_takes_too_many_steps_is_given_up(rt: HostRuntime) -> Result<(), Fail> {
+    let tables = Tables::small(rt.alloc())?;
+    let slow = compiled(rt.alloc(), SLOW, "", &tables)?;
+    let text = "a".repeat(rt.alloc(), 60)?;
+    let found = slow.within(10_000).is_match(text.as_str());
+    assert!(rt; found == Err(SearchError::TooManySteps));
+    let found = slow.within(10_000).is_match("aab");
+    assert!(rt; found == Ok(true));
+    Ok(())
+}
+
+#[test]
+fn a_search_in_enough_steps_answers_the_same(rt: HostRuntime) -> Result<(), Fail> {
+    let tables = Tables::small(rt.alloc())?;
+    let regex = compiled(rt.alloc(), "(é+)|a", "", &tables)?;
+    let found = parts(rt.alloc(), &regex, "xaéé é", 1_000)?;
+    assert!(rt; found.as_slice() == ["a", "éé", "é"].as_slice());
+    let second = first_from(&regex, "xaéé é", 2, 1_000)?;
+    assert!(rt; ends(second) == Some((2, 6)));
+    Ok(())
+}
+
+#[test]
+fn an_iteration_has_one_budget(rt: HostRuntime) -> Result<(), Fail> {
+    let tables = Tables::small(rt.alloc())?;
+    let regex = compiled(rt.alloc(), "[ab]+?", "", &tables)?;
+    let text = "ab".repeat(rt.alloc(), 500)?;
+    let few = count(&regex, text.as_str(), 500)?;
+    let all = count(&regex, text.as_str(), 100_000)?;
+    assert!(rt; few > 0 && few < 500 && all == 1_000);
+    Ok(())
+}
+
+#[test]
+fn no_step_is_enough_for_no_run(rt: HostRuntime) -> Result<(), Fail> {
+    let tables = Tables::small(rt.alloc())?;
+    let regex = compiled(rt.alloc(), "ab", "", &tables)?;
+    assert!(rt; regex.within(0).is_match("ab") == Err(SearchError::TooManySteps));
+    assert!(rt; regex.within(0).is_match("xyz") == Ok(false));
+    Ok(())
+}
