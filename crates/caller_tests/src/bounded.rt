@@ -135,6 +135,11 @@ fn texts_in_so_many_steps(rt: HostRuntime) -> Result<(), Fail> {
     let new = |_: &Match| -> Result<String, SearchError> { Ok(String::from_str(alloc, "$0")?) };
     assert!(rt; bounded.replace_with("a1b2", &new)?.as_str() == "a$0b2");
     assert!(rt; bounded.replace_all_with("a1b2", &new)?.as_str() == "a$0b$0");
-    assert!(rt; matches!(&digits.within(0).replace("a1", "#"), Err(SearchError::TooManySteps)));
+    assert!(rt;
+        matches!(
+            &digits.within(0).replace("a1", "#"),
+            Err(SearchError::TooManySteps)
+        )
+    );
     Ok(())
 }
