@@ -87,5 +87,5 @@ pub returns-clause-counted : goal.returns-clause-counted
 returns-clause-counted g c =
     let v = g.Input.InputIndexer.view c.args.self.now.input in
     let all = g.met.Input.InputIndexer.are_of_kind c.args.self.now.input in
-    let most = c.pass.ensures.most (length v.units) (place-lies v all c.args.spot.now.offset c.requires.body.3) (place-lies v all c.in-Some-far_exit.far c.in-Some-far_exit.ensures.place) in
+    let most = c.pass-2.ensures.most (length v.units) (place-lies v all c.args.spot.now.offset c.requires.body.3) (place-lies v all c.in-Some-far_exit.far c.in-Some-far_exit.ensures.place) in
     omega (arith, most)

@@ -34,6 +34,15 @@ mark-requires-clause-there g c =
     let same = c.requires.sound.groups in
     omega (arith, there, same)
 
+pub count_reference-requires : goal.count_reference-requires
+count_reference-requires g c =
+    let program = program_of c.args.self.now.program.now in
+    let p = c.args.spot.now in
+    let here = stands-as program p.at _ _ c.in-BackRef.is c.instruction-insn.ensures.stands in
+    let there = c.requires.suits.closed p.at _ here in
+    let same = c.requires.sound.groups in
+    omega (arith, there, same)
+
 pub group_data-requires-in-EndCaptureGroup : goal.group_data-requires-in-EndCaptureGroup
 group_data-requires-in-EndCaptureGroup g c =
     let program = program_of c.args.self.now.program.now in
