@@ -5,6 +5,7 @@ pub mod RefusedLemmas
 pub mod LawLemmas
 pub use Rattle.regress_programs.proofs.AskingLemmas
 pub mod ShownLemmas
+pub mod SplittingLemmas
 pub use Rattle.regress_programs.proofs.ListedLemmas
 pub use Rattle.regress_programs.proofs.ToldLemmas
 pub use Rattle.regress_programs.proofs.UnitLemmas

@@ -1,36 +1,35 @@
 -- The parts that an iterator over a text has still to yield.
-use Rattle.std.specs.Prelude.{◌≡◌, ℕ, suc, List, [], take, Option, Some, Result, Err}
+use Rattle.std.specs.Prelude.{◌≡◌, ℕ, suc, List, [], ◌∷◌, take, Option, Some, None, Result, Ok, Err}
 use Rattle.std.specs.Borrow.{Bor}
-use Rattle.regress_matched.specs.Splitting.{parts_on}
-use Rattle.regress_matched.specs.Splitting as matched
 use Rattle.regress_front_core.specs.declared.error.Error.{Error}
 use Rattle.regress_front_core.specs.declared.error.Error.TheVariants.{OutOfMemory}
+use Rattle.regress_matched.specs.Splitting.{parts_on, first_parts_on}
 use Rattle.regress.specs.declared.splitting.Split.{Split}
 use Rattle.regress.specs.declared.splitting.SplitN.{SplitN}
 use Rattle.regress.specs.Coming.{coming}
 
 -- the parts still to come
 abbrev pub parts_left : Split → List (List ℕ)
-parts_left s = matched.parts_left coming s.parts
+parts_left s = parts_on s.source.now s.behind (coming s.matches)
 
 -- the parts still to come, at most so many as are left of the limit
 abbrev pub first_parts_left : SplitN → List (List ℕ)
-first_parts_left s = matched.first_parts_left coming s.parts
+first_parts_left s = first_parts_on s.limit s.parts.source.now s.parts.behind (coming s.parts.matches)
 
--- an error is one of refused memory
-abbrev pub IsRefusal : Option (Result (Bor (List ℕ)) Error) → Type 0
-IsRefusal (Some (Err e)) = e ≡ OutOfMemory
-IsRefusal _ = Unit {0}
+-- what a step gave, from the parts that were coming to those that still are
+abbrev pub GivesFirstPart : List (List ℕ) → Option (Result (Bor (List ℕ)) Error) → List (List ℕ) → Type 0
+GivesFirstPart before None after = (before ≡ []) × (after ≡ [])
+GivesFirstPart before (Some (Ok part)) after = before ≡ part.now ∷ after
+GivesFirstPart before (Some (Err e)) after = (e ≡ OutOfMemory) × (after ≡ [])
 
 -- A step gives the first of the parts that were coming, or a refusal, or nothing where none was coming. Behind a refusal none
 -- is coming, and where none is coming it gives nothing.
 pub record GivesPart {S : Type 0} (left : S → List (List ℕ)) (old : S) (r : Option (Result (Bor (List ℕ)) Error)) (new : S) : Type 0 where
-  pub gives : matched.GivesPart left old r new
-  pub refused : IsRefusal r
+  pub first : GivesFirstPart (left old) r (left new)
+  pub ended : left old ≡ [] → r ≡ None
 
 -- A step of an iterator over all parts: it gives the first of them, and also where no more than some items are taken, one less
 -- of them behind it.
 pub record GivesSplit (old : Split) (r : Option (Result (Bor (List ℕ)) Error)) (new : Split) : Type 0 where
   pub gives : GivesPart parts_left old r new
-  pub limited : (n : ℕ) → matched.GivesFirstPart (parts_on old.parts.source.now old.parts.behind (take (suc n) (coming old.parts.matches))) r
-      (parts_on new.parts.source.now new.parts.behind (take n (coming new.parts.matches)))
+  pub limited : (n : ℕ) → GivesFirstPart (parts_on old.source.now old.behind (take (suc n) (coming old.matches))) r (parts_on new.source.now new.behind (take n (coming new.matches)))

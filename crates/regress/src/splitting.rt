@@ -1,12 +1,15 @@
 //! The parts of a text between its matches.
-ghost use Rattle.std.specs.Prelude.{◌≡◌, ℕ, IfOk, IsOkUnless, chars, length, map};
+ghost use Rattle.std.specs.Prelude.{◌≡◌, ℕ, ◌∷◌, [], Some, None, IfSome, IfOk, IsCharBoundary, IsOkUnless, MatchOption, chars, length, map};
 ghost use Rattle.std.specs.Iterator.{at_most};
+ghost use Rattle.std.proofs.Props.{props};
 ghost use Rattle.regress_meaning.specs.Table.{Table};
 ghost use Rattle.regress_meaning.specs.Pattern.{Pattern};
 ghost use Rattle.regress_meaning.specs.Flags.{Options};
 ghost use Rattle.regress_meaning.specs.Matches.{match_list};
 ghost use Rattle.regress_meaning.specs.Offsets.{of_utf8, told};
 ghost use Rattle.regress_meaning.specs.Parts.{parts, first_parts};
+ghost use Rattle.regress.specs.Behind.{LieBehindAny, LieBehindAny-prop};
+ghost use Rattle.regress.specs.Coming.{searched, coming};
 ghost use Rattle.regress_front.specs.Trees.{Tree};
 ghost use Rattle.regress.specs.Standing.{StandsFor, HasTree, tree_list};
 
@@ -18,7 +21,43 @@ use std::iter::FusedIterator;
 /// The parts of a text between the matches of a pattern, one after another: from `Regex::split`.
 #[derive(Debug, Drop)]
 pub struct Split<'r, 't> {
-    parts: regress_matched::Split<'t, Matches<'r, 't>>,
+    matches: Matches<'r, 't>,
+    source: &'t str,
+    behind: Option<usize>,
+    ghost over: { searched matches ≡ source.now },
+    ghost cut: { IfSome behind (IsCharBoundary source.now) } by { Prim.hlevel props },
+    ghost order: { LieBehindAny behind (coming matches) } by { LieBehindAny-prop behind (coming matches) },
+}
+
+impl<'r, 't> Split<'r, 't> {
+    ghost use Rattle.regress.specs.Splitting.{parts_left};
+    ghost use Rattle.regress_matched.specs.Splitting.{parts_on};
+
+    /// The parts of a text between the matches of a pattern.
+    fn new(regex: &'r Regex, source: &'t str) -> Result<Self, Error>
+        ensures begins { IfOk result (λ s. (s.source.now ≡ source.now) × (s.behind ≡ Some 0)) }
+        ensures matches { (t : Table) → (o : Options) → (p : Pattern) → StandsFor regex.now t o p →
+            IfOk result (λ s. coming s.matches ≡ map (told (of_utf8 source.now)) (match_list t o p (chars source.now) 0)) }
+        ensures matches_of_tree { (n : ℕ) → (t : Tree) → HasTree regex.now n t →
+            IfOk result (λ s. coming s.matches ≡ map (told (of_utf8 source.now)) (tree_list regex.now n t (chars source.now) 0)) }
+        ensures refused { IsOkUnless result Error.OutOfMemory }
+    {
+        let matches = regex.find_iter(source)?;
+        Ok(Split {
+            matches,
+            source,
+            behind: Some(0),
+        })
+    }
+
+    /// All that is left of the text, as the last part; `None` where the last was given.
+    fn rest(&mut self) -> Option<&'t str>
+        ensures left { MatchOption result (self.old.behind ≡ None) (λ part. parts_on self.old.source.now self.old.behind [] ≡ part.now ∷ []) }
+        ensures ends { self.new.behind ≡ None }
+    {
+        let behind = self.behind.take()?;
+        Some(&self.source[behind..])
+    }
 }
 
 impl<'r, 't> Iterator for Split<'r, 't> {
@@ -39,7 +78,15 @@ impl<'r, 't> Iterator for Split<'r, 't> {
     /// let first = regex.split("a, b")?.next(); // for `, ` it is `Some(Ok("a"))`
     /// ```
     fn next(&mut self) -> Option<Result<&'t str, Error>> {
-        self.parts.next()
+        let behind = self.behind.take()?;
+        match self.matches.next() {
+            Some(Ok(found)) => {
+                self.behind = Some(found.end());
+                Some(Ok(&self.source[behind..found.start()]))
+            }
+            Some(Err(error)) => Some(Err(error)),
+            None => Some(Ok(&self.source[behind..])),
+        }
     }
 }
 
@@ -48,7 +95,8 @@ impl<'r, 't> FusedIterator for Split<'r, 't> {}
 /// At most so many parts of a text between the matches of a pattern, the last of them all that is left: from `Regex::splitn`.
 #[derive(Debug, Drop)]
 pub struct SplitN<'r, 't> {
-    parts: regress_matched::SplitN<'t, Matches<'r, 't>>,
+    parts: Split<'r, 't>,
+    limit: usize,
 }
 
 impl<'r, 't> Iterator for SplitN<'r, 't> {
@@ -69,7 +117,17 @@ impl<'r, 't> Iterator for SplitN<'r, 't> {
     /// let first = regex.splitn("a, b, c", 2)?.next(); // for `, ` it is `Some(Ok("a"))`
     /// ```
     fn next(&mut self) -> Option<Result<&'t str, Error>> {
-        self.parts.next()
+        match self.limit {
+            0 => None,
+            1 => {
+                self.limit = 0;
+                self.parts.rest().map(Ok)
+            }
+            _ => {
+                self.limit -= 1;
+                self.parts.next()
+            }
+        }
     }
 }
 
@@ -95,10 +153,7 @@ impl Regex {
             IfOk result (λ s. parts_left s ≡ parts text.now (map (told (of_utf8 text.now)) (tree_list self.now n t (chars text.now) 0))) }
         ensures refused { IsOkUnless result Error.OutOfMemory }
     {
-        let matches = self.find_iter(text)?;
-        Ok(Split {
-            parts: regress_matched::Split::new(matches, text),
-        })
+        Split::new(self, text)
     }
 
     /// The parts of a text between the matches of the pattern, as `split` answers them, but at most `limit` of them: the last
@@ -118,10 +173,7 @@ impl Regex {
             IfOk result (λ s. first_parts_left s ≡ first_parts limit text.now (map (told (of_utf8 text.now)) (tree_list self.now n t (chars text.now) 0))) }
         ensures refused { IsOkUnless result Error.OutOfMemory }
     {
-        let matches = self.find_iter(text)?;
-        let all = regress_matched::Split::new(matches, text);
-        Ok(SplitN {
-            parts: regress_matched::SplitN::new(all, limit),
-        })
+        let parts = Split::new(self, text)?;
+        Ok(SplitN { parts, limit })
     }
 }

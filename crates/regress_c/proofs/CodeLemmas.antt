@@ -75,47 +75,11 @@ done-keeps (Err x) n P e h = subst (λ (z : ℤ). IfError z (λ _. P)) (sym e) (
 
 -- the error of memory has its own number
 memory-alone : (x : CallError) → negsuc (number_of x) ≡ negsuc 0 → x ≡ OutOfMemory
-memory-alone OutOfMemory same = refl
-memory-alone WrongHandle same = absurd cc
-memory-alone Null same = absurd cc
-memory-alone NotUtf8 same = absurd cc
-memory-alone BadStart same = absurd cc
-memory-alone NoRoom same = absurd cc
-memory-alone Syntax same = absurd cc
-memory-alone TooDeep same = absurd cc
-memory-alone TooManyGroups same = absurd cc
-memory-alone TooManyLoops same = absurd cc
-memory-alone TooLarge same = absurd cc
-memory-alone UnknownFlag same = absurd cc
-memory-alone RepeatedFlag same = absurd cc
-memory-alone BothUnicodeFlags same = absurd cc
-memory-alone NoGroup same = absurd cc
-memory-alone BrokenTables same = absurd cc
-memory-alone SameHandle same = absurd cc
-memory-alone PastLimit same = absurd cc
-memory-alone TooManySteps same = absurd cc
+memory-alone x same = sym (subst (λ (z : ℤ). IfError z (λ y. y ≡ x)) same (by-number x (λ y. y ≡ x) refl))
 
 -- and so has that of too many steps
 steps-alone : (x : CallError) → negsuc (number_of x) ≡ negsuc 18 → x ≡ TooManySteps
-steps-alone OutOfMemory same = absurd cc
-steps-alone WrongHandle same = absurd cc
-steps-alone Null same = absurd cc
-steps-alone NotUtf8 same = absurd cc
-steps-alone BadStart same = absurd cc
-steps-alone NoRoom same = absurd cc
-steps-alone Syntax same = absurd cc
-steps-alone TooDeep same = absurd cc
-steps-alone TooManyGroups same = absurd cc
-steps-alone TooManyLoops same = absurd cc
-steps-alone TooLarge same = absurd cc
-steps-alone UnknownFlag same = absurd cc
-steps-alone RepeatedFlag same = absurd cc
-steps-alone BothUnicodeFlags same = absurd cc
-steps-alone NoGroup same = absurd cc
-steps-alone BrokenTables same = absurd cc
-steps-alone SameHandle same = absurd cc
-steps-alone PastLimit same = absurd cc
-steps-alone TooManySteps same = refl
+steps-alone x same = sym (subst (λ (z : ℤ). IfError z (λ y. y ≡ x)) same (by-number x (λ y. y ≡ x) refl))
 
 -- a search for many matches ended early
 pub done-early : (r : Result Unit CallError) (n : ℤ) → n ≡ done_code r → (n ≡ negsuc 0) ⊎ (n ≡ negsuc 18) → (r ≡ Err OutOfMemory) ⊎ (r ≡ Err TooManySteps)
