@@ -5,4 +5,3 @@ pub mod RowsLemmas
 pub mod PassingLemmas
 pub mod PartLemmas
 pub mod TouchedLemmas
-pub mod GivenUpLemmas

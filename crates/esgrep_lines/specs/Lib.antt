@@ -5,4 +5,3 @@ pub mod Props
 pub mod Parts
 pub mod Finding
 pub mod Laws
-pub mod GivenUp

@@ -6,7 +6,7 @@ ghost use Rattle.esgrep_rows.specs.Found.{LieInOrder};
 ghost use Rattle.esgrep_lines.specs.Props.{LieInOrder-prop};
 ghost use Rattle.esgrep_lines.specs.Parts.{splits_ending, touched, told_in, has_part, is_between, parts_in, found_parts};
 
-use crate::finder::{FindError, Finder};
+use crate::finder::Finder;
 use esgrep_rows::Ending;
 use regress_front_core::Error;
 use regress_match::{Match, Range};
@@ -91,9 +91,7 @@ impl Finder for Parts<'_> {
 
     ghost finds = { FindsParts };
 
-    ghost gives_up = { λ _ _. ⊥ };
-
-    fn is_match(&self, start: usize, text: &str) -> Result<bool, FindError> {
+    fn is_match(&self, start: usize, text: &str) -> Result<bool, Error> {
         for found in self.near(start, text) {
             if self.part_in(found, start, text).is_some() {
                 return Ok(true);
@@ -102,12 +100,7 @@ impl Finder for Parts<'_> {
         Ok(false)
     }
 
-    fn find_into(
-        &self,
-        start: usize,
-        text: &str,
-        founds: &mut Vec<Match>,
-    ) -> Result<(), FindError> {
+    fn find_into(&self, start: usize, text: &str, founds: &mut Vec<Match>) -> Result<(), Error> {
         founds.clear();
         for found in self.near(start, text) {
             if let Some(part) = self.part_in(found, start, text) {

@@ -2,4 +2,3 @@ pub mod OrderLemmas
 pub mod FoundLemmas
 pub mod HitLemmas
 pub mod SeveralLemmas
-pub mod BoundLemmas
