@@ -20,8 +20,13 @@ impl Regex {
     /// long it is.
     ///
     /// ```rust
-    /// for found in regex.within(1_000_000).find_iter("aab ab")? {
-    ///     let range = found?.range(); // for `a+b` 0..3, then 4..6
+    /// fn count(regex: &Regex, text: &str) -> Result<usize, SearchError> {
+    ///     let mut count = 0usize;
+    ///     for found in regex.within(1_000_000).find_iter(text)? {
+    ///         let range = found?.range(); // of `a+b` in `aab ab` 0..3, then 4..6
+    ///         count = count.saturating_add(range.len());
+    ///     }
+    ///     Ok(count)
     /// }
     /// ```
     pub fn within(&self, steps: usize) -> Bounded<'_>
