@@ -4,9 +4,8 @@ use crate::code::program;
 use crate::parsed::rewritten;
 use regress_engine_analysis::Known;
 use regress_engine_code::emit;
-use regress_engine_inputs::{Utf8Input, Utf16Input};
+use regress_engine_inputs::Utf8Input;
 use regress_engine_insn::Insn;
-use regress_engine_leading::{Beginning, known_at};
 use regress_engine_singles::{as_far_ahead, taken_before};
 use regress_front_tables::Tables;
 use std::test::Fail;
@@ -107,23 +106,6 @@ fn characters_are_taken_before_a_byte(rt: HostRuntime) -> Result<(), Fail> {
         assert!(rt; text.is_char_boundary(*at));
         let any = Insn::MatchAnyExceptLineTerminator;
         assert!(rt; taken_before(&input, &any, *byte, usize::MAX, *at) == *end);
-    }
-    Ok(())
-}
-
-/// A pattern, and from where on in `abδé` a character begins as a match of it may.
-const LEADS: &[(&str, usize)] = &[("é", 3), ("[à-ÿ]x", 3), ("δ?é", 2), ("[^a]b", 1)];
-
-#[test]
-fn over_units_characters_are_passed_that_begin_otherwise(rt: HostRuntime) -> Result<(), Fail> {
-    let tables = Tables::small(rt.alloc())?;
-    let units: &[u16] = &[0x61, 0x62, 0x3B4, 0xE9];
-    for (pattern, end) in LEADS {
-        let program = program(rt.alloc(), pattern, "", true, &tables)?;
-        let input = Utf16Input::new(units, false, program.tables());
-        assert!(rt; program.is_unit_program());
-        let known = known_at(&program, &input, 0);
-        assert!(rt; matches!(known, Beginning::Passed(past) if past == *end));
     }
     Ok(())
 }
