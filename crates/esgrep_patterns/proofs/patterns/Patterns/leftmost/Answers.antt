@@ -11,11 +11,11 @@ loop-regex-preserved c =
     let text = c.args.text.now in
     let regexes = c.args.self.now.regexes.items in
     record {
-      inside = c.sooner-leftmost.ensures.inside text c.args.start c.loop-regex.invariant.inside c.in_ok-first_from.ensures.inside;
+      inside = c.sooner-leftmost.ensures.inside text c.args.start c.loop-regex.invariant.inside c.in_ok-next_match.ensures.inside;
       found = λ ss seek place begins.
           leftmost-step text place regexes ss c.loop-regex.regex-index c.regex-item.result (rw c.deref-regex-items.ensures.value at c.regex-item.is)
-          (omega (arith, c.loop-regex-test.true, ap length c.deref-regex-items.ensures.value)) seek c.loop-regex.leftmost c.in_ok-first_from.field-0 c.sooner-leftmost.result
-          (c.sooner-leftmost.ensures.hits text) (λ s seeks. c.in_ok-first_from.ensures.found s seeks place begins) (c.loop-regex.invariant.found ss seek place begins);
+          (omega (arith, c.loop-regex-test.true, ap length c.deref-regex-items.ensures.value)) seek c.loop-regex.leftmost c.in_ok-next_match.field-0 c.sooner-leftmost.result
+          (c.sooner-leftmost.ensures.hits text) (λ s seeks. c.in_ok-next_match.ensures.found s seeks place begins) (c.loop-regex.invariant.found ss seek place begins);
     }
 
 pub returns-clause-found : goal.returns-clause-found

@@ -8,8 +8,8 @@ returns-then-len-eq1-clause-found c = λ template find finds.
     let text = c.args.text.now in
     found-alone c.args.self.now.regexes.items finds.sought c.index.result.now (omega (arith, c.if-len-eq1.true, c.len.ensures)) c.index.ensures finds.seek
     template text (find c.args._start text) (finds.finds c.args._start text) _
-    (λ s seeks is. found-ok c.is_match.result s.table s.options s.pattern template s.names text (find c.args._start text) is
-    (c.is_match.ensures.found s.table s.options s.pattern seeks.0))
+    (λ s seeks is. found-ok c.has_match.result s.table s.options s.pattern template s.names text (find c.args._start text) is
+    (c.has_match.ensures.found s.table s.options s.pattern seeks.0))
 
 pub returns-clause-found : goal.returns-clause-found
 returns-clause-found c = λ template find finds.
