@@ -1,6 +1,6 @@
 -- What is found in so many steps.
-use Rattle.std.proofs.Common.{◌≡◌, ℕ, zero, suc, ◌+◌, ◌-◌, List, [], ◌∷◌, length, map, chars, Option, Some, None, Result, Ok, Err, IfOk, refl, sym, ap, subst, ◌∙◌, arith}
-use Rattle.std.specs.Option.{option_transpose}
+use Rattle.std.proofs.Common.{◌≡◌, ◌<◌, ℕ, get_or, Any, zero, suc, ◌+◌, ◌-◌, List, [], ◌∷◌, length, map, chars, Option, Some, None, Result, Ok, Err, IfOk, refl, sym, ap, subst, ◌∙◌, arith}
+use Rattle.std.specs.Option.{option_transpose, option_map_or}
 use Rattle.regress_meaning.specs.Matches.{Item, next_place, list_from, first_match, match_list}
 use Rattle.regress_meaning.specs.Offsets.{of_utf8, told}
 use Rattle.regress_match.specs.declared.found.Match.{Match}
@@ -15,9 +15,11 @@ use Rattle.regress_programs.specs.declared.slots.Anchored.TheVariants.{No}
 use Rattle.regress_bounded.specs.Coming.{GivesFound}
 use Rattle.regress_bounded.specs.Stopping.{Counts, TakesAll}
 use Rattle.regress.proofs.IterationLemmas.{first-given}
+use Rattle.regress.specs.declared.api.Regex.{Regex}
 use Rattle.esgrep_rows.specs.Found.{Found, found_at}
 use Rattle.esgrep_patterns.specs.Seeking.{Sought, Hit, sooner, first_hit, leftmost, hits_from, found_hit, found_in, found_of_several, found_of_all, AreHits}
-use Rattle.esgrep_patterns.proofs.HitLemmas.{first, hit, head-hit}
+use Rattle.esgrep_patterns.proofs.HitLemmas.{hit, head-hit}
+use Rattle.esgrep_patterns.proofs.SeveralLemmas.{hits-end, hits-go}
 
 -- a match that a step of a bounded iterator gave first is the first hit
 pub within-hit : (bytes : List ℕ) (place : ℕ) (s : Sought) (IsMatch : Match → Type 0) (before after : List Item) (given : Option (Result Match SearchError))
@@ -50,17 +52,32 @@ one-leftmost text s place = by (first_hit text place s)
     by None = refl
     by (Some h) = refl
 
+-- no more items are found, and an item is found and then those behind it
+list-end : (found : ℕ → Option Item) (n place : ℕ) → found place ≡ None → list_from found (suc n) place ≡ []
+unfolding list_from
+list-end found n place none = ap (λ (x : Option Item). option_map_or (λ i. i ∷ list_from found n (next_place i)) x []) none
+
+list-go : (found : ℕ → Option Item) (n place : ℕ) (i : Item) → found place ≡ Some i → list_from found (suc n) place ≡ i ∷ list_from found n (next_place i)
+unfolding list_from
+list-go found n place i some = ap (λ (x : Option Item). option_map_or (λ i. i ∷ list_from found n (next_place i)) x []) some
+
 -- the hits of one pattern are its items
 one-hits : (text : List ℕ) (s : Sought) (n place : ℕ)
     → hits_from text (s ∷ []) n place ≡ map (λ i. record { item = i; names = s.names }) (list_from (first_match s.table s.options s.pattern text) n place)
 unfolding hits_from list_from
 one-hits text s zero place = refl
-one-hits text s (suc n) place = by (first_match s.table s.options s.pattern text place) refl
+one-hits text s (suc n) place = by (first_match s.table s.options s.pattern text place) refl (λ i. one-hits text s n (next_place i))
   where
     by : (x : Option Item) → first_match s.table s.options s.pattern text place ≡ x
+        → ((i : Item) → hits_from text (s ∷ []) n (next_place i) ≡ map (λ i. record { item = i; names = s.names }) (list_from (first_match s.table s.options s.pattern text) n (next_place i)))
         → hits_from text (s ∷ []) (suc n) place ≡ map (λ i. record { item = i; names = s.names }) (list_from (first_match s.table s.options s.pattern text) (suc n) place)
-    by None is = rw is refl
-    by (Some i) is = rw is (ap (λ (hs : List Hit). record { item = i; names = s.names } ∷ hs) (one-hits text s n (next_place i)))
+    by None is rest =
+        hits-end text (s ∷ []) (suc n) place (one-leftmost text s place ∙ ap (hit s) is)
+        ∙ sym (ap (map (λ i. record { item = i; names = s.names })) (list-end (first_match s.table s.options s.pattern text) n place is))
+    by (Some i) is rest =
+        hits-go text (s ∷ []) n place (record { item = i; names = s.names }) (one-leftmost text s place ∙ ap (hit s) is)
+        ∙ ap (λ (hs : List Hit). record { item = i; names = s.names } ∷ hs) (rest i)
+        ∙ sym (ap (map (λ i. record { item = i; names = s.names })) (list-go (first_match s.table s.options s.pattern text) n place i is))
 
 -- the match list of a pattern is what is found from one place on
 list-whole : (s : Sought) (text : List ℕ) → match_list s.table s.options s.pattern text 0 ≡ list_from (first_match s.table s.options s.pattern text) (length text + 1) 0
@@ -86,3 +103,7 @@ pub all-several : (ss : List Sought) (template : Option (List ℕ)) (text : List
 all-several [] template text = refl
 all-several (s ∷ []) template text = one-several s template text
 all-several (s ∷ t ∷ ss) template text = refl
+
+-- one of some regexes is, whose search is too long
+pub any-too_long : (P : Regex → Type 0) (regexes : List Regex) (k : ℕ) (regex : Regex) → regex ≡ get_or regexes k regex → k < length regexes → P regex → Any P regexes
+any-too_long P regexes k regex is below long = (k, regex, below, sym is, long)
