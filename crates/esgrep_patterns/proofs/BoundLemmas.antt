@@ -5,14 +5,14 @@ use Rattle.regress_meaning.specs.Matches.{Item, next_place, list_from, first_mat
 use Rattle.regress_meaning.specs.Offsets.{of_utf8, told}
 use Rattle.regress_match.specs.declared.found.Match.{Match}
 use Rattle.regress_match.specs.GroupViews.{names_of_match}
+use Rattle.regress_matched.specs.Giving.{GivesFound}
 use Rattle.regress_engine_code.specs.declared.compiled.CompiledRegex.{CompiledRegex}
-use Rattle.regress_engine_input.specs.Views.{View}
-use Rattle.regress_engine_search.specs.Search.{Search}
+use Rattle.regress_engine.specs.Search.{Search}
+use Rattle.regress_engine.specs.Views.{View}
 use Rattle.regress_engine_exec.specs.declared.error.SearchError.{SearchError}
 use Rattle.regress_engine_exec.specs.declared.error.SearchError.TheVariants.{OutOfMemory, TooManySteps}
 use Rattle.regress_engine_exec.specs.BoundedSearches.{CountsStep}
 use Rattle.regress_programs.specs.declared.slots.Anchored.TheVariants.{No}
-use Rattle.regress_bounded.specs.Coming.{GivesFound}
 use Rattle.regress_bounded.specs.Stopping.{Counts, TakesAll}
 use Rattle.regress.proofs.IterationLemmas.{first-given}
 use Rattle.regress.specs.declared.api.Regex.{Regex}
