@@ -32,6 +32,12 @@ within-hit bytes place s IsMatch before after (Some (Ok m)) gives same named =
     head-hit bytes place s (Some m) (first-given IsMatch before after (Some (Ok m)) (told (of_utf8 bytes)) _ gives same) (named m gives.1)
 within-hit bytes place s IsMatch before after (Some (Err e)) gives same named = tt
 
+-- what a call errs with is what the iterator gave
+pub given-err : {T E : Type 0} (given : Option (Result T E)) (e : E) → option_transpose given ≡ Err e → given ≡ Some (Err e)
+given-err None e is = absurd (cc is)
+given-err (Some (Ok x)) e is = absurd (cc is)
+given-err (Some (Err d)) e is = ap (λ r. Some r) (let same : d ≡ e = cc is in ap (λ x. Err x) same)
+
 -- a step that had too many steps was a search that takes all that there may be
 pub step-too_long : (s : Search) (from : Option ℕ) (given : Option (Result Match SearchError)) (before after : ℕ) → CountsStep s from given before after
     → (from ≡ None → given ≡ None) → given ≡ Some (Err TooManySteps) → (program : CompiledRegex) (v : View) (steps : ℕ)

@@ -1,7 +1,9 @@
 use Rattle.std.proofs.Common.{arith, sym, ap, ◌∙◌}
-use Rattle.regress_engine_code.specs.Standing.{names_of}
+use Rattle.regress_engine.specs.Standing.{names_of}
+use Rattle.regress_engine.specs.Views.{utf8}
+use Rattle.regress_bounded.specs.Stopping.{seen_by}
 use Rattle.esgrep_patterns.proofs.HitLemmas.{later-hit}
-use Rattle.esgrep_patterns.proofs.BoundLemmas.{within-hit}
+use Rattle.esgrep_patterns.proofs.BoundLemmas.{within-hit, given-err, step-too_long}
 use Rattle.esgrep_patterns.proofs.patterns.first_within.Goals as goal
 
 pub returns-in_default-clause-found : goal.returns-in_default-clause-found
@@ -10,7 +12,7 @@ returns-in_default-clause-found c = λ s seeks place begins.
     let bound = c.within-bounded.ensures in
     let given = within-hit c.args.text.now place s _ _ _ c.next.result c.next.ensures.steps.first
     (made.matches s.table s.options s.pattern (bound.stands s.table s.options s.pattern seeks.0) place begins)
-    (λ m is. is.1 ∙ ap names_of (made.program ∙ ap (λ p. p.byte_program) bound.compiled) ∙ seeks.1) in
+    (λ m is. is.1 ∙ ap names_of made.program ∙ bound.named ∙ seeks.1) in
     rw (← c.transpose.ensures, c.in_ok-found.was, c.in_default.is) at given
 
 pub returns-then-start-clause-found : goal.returns-then-start-clause-found
@@ -20,7 +22,7 @@ returns-then-start-clause-found c = λ s seeks place begins.
     let bound = c.within-bounded.ensures in
     let given = within-hit c.args.text.now place s _ _ _ c.next.result c.next.ensures.steps.first
     (made.matches s.table s.options s.pattern (bound.stands s.table s.options s.pattern seeks.0) place begins)
-    (λ m is. is.1 ∙ ap names_of (made.program ∙ ap (λ p. p.byte_program) bound.compiled) ∙ seeks.1) in
+    (λ m is. is.1 ∙ ap names_of made.program ∙ bound.named ∙ seeks.1) in
     let here = rw (← c.transpose.ensures, c.in_ok-found.was, c.in-Some.is) at given in
     let later = later-hit text place s c.args.start begins c.in-Some.found here in
     absurd (omega (arith, later, c.if-start.true))
@@ -31,5 +33,15 @@ returns-clause-found c = λ s seeks place begins.
     let bound = c.within-bounded.ensures in
     let given = within-hit c.args.text.now place s _ _ _ c.next.result c.next.ensures.steps.first
     (made.matches s.table s.options s.pattern (bound.stands s.table s.options s.pattern seeks.0) place begins)
-    (λ m is. is.1 ∙ ap names_of (made.program ∙ ap (λ p. p.byte_program) bound.compiled) ∙ seeks.1) in
+    (λ m is. is.1 ∙ ap names_of made.program ∙ bound.named ∙ seeks.1) in
     rw (← c.transpose.ensures, c.in_ok-found.was, c.in-Some.is) at given
+
+pub returns-in_err-found-clause-stopped : goal.returns-in_err-found-clause-stopped
+returns-in_err-found-clause-stopped c = λ err.
+    let program = c.args.regex.now.compiled.byte_program in
+    let made = c.in_ok-find_from.ensures in
+    let bound = c.within-bounded.ensures in
+    let step = c.next.ensures.steps in
+    step-too_long _ _ c.next.result _ _ step.counted step.ended (given-err c.next.result _ (sym c.transpose.ensures ∙ c.in_err-found.was ∙ err)) program
+    (seen_by program utf8 c.args.text.now) c.args.steps
+    (made.program ∙ ap (λ p. p.byte_program) bound.compiled) (made.over ∙ ap (λ p. seen_by p.byte_program utf8 c.args.text.now) bound.compiled) (made.steps ∙ bound.steps)
