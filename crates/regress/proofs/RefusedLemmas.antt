@@ -1,15 +1,11 @@
 -- What searches without a budget err with: refused memory alone.
 use Rattle.std.specs.Prelude.{IfErr, IsOkUnless}
-use Rattle.std.specs.Borrow.{Bor}
-use Rattle.std.proofs.Common.{◌≡◌, ◌⊎◌, ℕ, List, Option, Some, None, Result, Ok, Err, inl, inr, subst}
+use Rattle.std.proofs.Common.{◌≡◌, ◌⊎◌, Result, Ok, Err, inl, inr, subst}
 use Rattle.regress_front_core.specs.declared.error.Error.{Error}
 use Rattle.regress_front_core.specs.declared.error.Error.TheVariants.{OutOfMemory}
-use Rattle.regress_match.specs.declared.found.Match.{Match}
 use Rattle.regress_matched.specs.Giving.{Errs}
-use Rattle.regress_matched.specs.Splitting.{GivesBy}
 use Rattle.regress_programs.specs.declared.matches.Matches.{Matches}
 use Rattle.regress_programs.specs.Coming.{GivesNext}
-use Rattle.regress.specs.Splitting.{IsRefusal}
 
 pub errs-memory : (ms : Matches) (e : Error) → Errs GivesNext ms e → e ≡ OutOfMemory
 errs-memory ms e (given, (old, new, yields, step)) = step.2.first.0
@@ -24,9 +20,3 @@ memory-alone (Err e) ms (inr errs) = errs-memory ms e errs
 pub memory-turned : {E : Type 0} (turns : Error → E → Type 0) (ms : Matches) (e : E) → (x : Error) × ((x ≡ OutOfMemory) ⊎ Errs GivesNext ms x) × turns x e → turns OutOfMemory e
 memory-turned turns ms e (x, inl memory, becomes) = subst (λ y. turns y e) memory becomes
 memory-turned turns ms e (x, inr errs, becomes) = subst (λ y. turns y e) (errs-memory ms x errs) becomes
-
--- a step that gives parts errs so
-pub part-refused : (old new : Matches) (r : Option (Result (Bor (List ℕ)) Error)) (next : Option ℕ) → GivesBy GivesNext old r new next → IsRefusal r
-part-refused old new None next by = tt
-part-refused old new (Some (Ok part)) next by = tt
-part-refused old new (Some (Err e)) next by = by.2.first.0

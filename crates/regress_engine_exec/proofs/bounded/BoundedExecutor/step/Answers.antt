@@ -1,4 +1,4 @@
-use Rattle.core.specs.Result.{result_transpose}
+use Rattle.std.specs.Result.{result_transpose}
 use Rattle.std.proofs.Common.{◌≡◌, ◌∙◌, ℕ, sym, Option, Some, None, Result, Ok, Err, IfOk, OnErr}
 use Rattle.regress_match.specs.declared.found.Match.{Match}
 use Rattle.regress_match.specs.Iterating.{Finds}
