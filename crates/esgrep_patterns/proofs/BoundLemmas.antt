@@ -1,6 +1,7 @@
 -- What is found in so many steps.
 use Rattle.std.proofs.Common.{◌≡◌, ◌<◌, ℕ, get_or, Any, zero, suc, ◌+◌, ◌-◌, List, [], ◌∷◌, length, map, chars, Option, Some, None, Result, Ok, Err, IfOk, refl, sym, ap, subst, ◌∙◌, arith}
 use Rattle.std.specs.Option.{option_transpose, option_map_or}
+use Rattle.std.specs.Result.{IsErrAnd}
 use Rattle.regress_meaning.specs.Matches.{Item, next_place, list_from, first_match, match_list}
 use Rattle.regress_meaning.specs.Offsets.{of_utf8, told}
 use Rattle.regress_match.specs.declared.found.Match.{Match}
@@ -8,16 +9,19 @@ use Rattle.regress_match.specs.GroupViews.{names_of_match}
 use Rattle.regress_matched.specs.Giving.{GivesFound}
 use Rattle.regress_engine_code.specs.declared.compiled.CompiledRegex.{CompiledRegex}
 use Rattle.regress_engine.specs.Search.{Search}
-use Rattle.regress_engine.specs.Views.{View}
+use Rattle.regress_engine.specs.Views.{View, utf8}
 use Rattle.regress_engine_exec.specs.declared.error.SearchError.{SearchError}
 use Rattle.regress_engine_exec.specs.declared.error.SearchError.TheVariants.{OutOfMemory, TooManySteps}
 use Rattle.regress_engine_exec.specs.BoundedSearches.{CountsStep}
 use Rattle.regress_programs.specs.declared.slots.Anchored.TheVariants.{No}
-use Rattle.regress_bounded.specs.Stopping.{Counts, TakesAll}
+use Rattle.regress_programs.specs.declared.compiled.Compiled.{Compiled}
+use Rattle.regress_bounded.specs.declared.bounded.Bounded.{Bounded}
+use Rattle.regress_bounded.specs.Standing.{compiled_of, steps_of, TakesAllInBytes}
+use Rattle.regress_bounded.specs.Stopping.{seen_by, Counts, TakesAll}
 use Rattle.regress.proofs.IterationLemmas.{first-given}
 use Rattle.regress.specs.declared.api.Regex.{Regex}
 use Rattle.esgrep_rows.specs.Found.{Found, found_at}
-use Rattle.esgrep_patterns.specs.Seeking.{Sought, Hit, sooner, first_hit, leftmost, hits_from, found_hit, found_in, found_of_several, found_of_all, AreHits}
+use Rattle.esgrep_patterns.specs.Seeking.{Sought, Hit, sooner, first_hit, leftmost, hits_from, found_hit, found_in, found_of_several, found_of_all, AreHits, IsTooLong}
 use Rattle.esgrep_patterns.proofs.HitLemmas.{hit, head-hit}
 use Rattle.esgrep_patterns.proofs.SeveralLemmas.{hits-end, hits-go}
 
@@ -36,7 +40,12 @@ within-hit bytes place s IsMatch before after (Some (Err e)) gives same named = 
 pub given-err : {T E : Type 0} (given : Option (Result T E)) (e : E) → option_transpose given ≡ Err e → given ≡ Some (Err e)
 given-err None e is = absurd (cc is)
 given-err (Some (Ok x)) e is = absurd (cc is)
-given-err (Some (Err d)) e is = ap (λ r. Some r) (let same : d ≡ e = cc is in ap (λ x. Err x) same)
+given-err (Some (Err d)) e is = cc is
+
+-- the error that a `?` hands on is the one that it was given
+pub handed-same : {T E : Type 0} (r : Result T E) (x e : E) → IsErrAnd r (λ y. y ≡ x) → r ≡ Err e → x ≡ e
+handed-same (Ok v) x e is err = absurd is
+handed-same (Err y) x e is err = cc (is, err)
 
 -- a step that had too many steps was a search that takes all that there may be
 pub step-too_long : (s : Search) (from : Option ℕ) (given : Option (Result Match SearchError)) (before after : ℕ) → CountsStep s from given before after
@@ -49,6 +58,13 @@ step-too_long s (Some at) (Some (Err OutOfMemory)) before after counts ended is 
 step-too_long s (Some at) (Some (Err TooManySteps)) before after counts ended is program v steps made over left =
     let all : TakesAll No s.compiled s.view at before = subst (λ (n : ℕ). Counts No s.compiled s.view at before n) counts.0 counts.1 in
     (at, subst (λ (n : ℕ). TakesAll No program v at n) left (subst (λ (w : View). TakesAll No program w at before) over (subst (λ (c : CompiledRegex). TakesAll No c s.view at before) made all)))
+
+-- where a regex with a number of steps takes all of them, the search for it is too long
+pub all-too_long : (regex : Regex) (b : Bounded) (steps : ℕ) → compiled_of b ≡ regex.compiled → steps_of b ≡ steps → (text : List ℕ) (at : ℕ)
+    → TakesAllInBytes b No utf8 text at → IsTooLong (Some steps) text regex
+all-too_long regex b steps same many text at takes =
+    (at, subst (λ (c : Compiled). TakesAll No c.byte_program (seen_by c.byte_program utf8 text) at steps) same
+    (subst (λ (n : ℕ). TakesAll No (compiled_of b).byte_program (seen_by (compiled_of b).byte_program utf8 text) at n) many takes))
 
 -- the leftmost match of one pattern is its first
 one-leftmost : (text : List ℕ) (s : Sought) (place : ℕ) → leftmost text (s ∷ []) place ≡ first_hit text place s

@@ -1,14 +1,14 @@
-use Rattle.std.proofs.Common.{◌≡◌, suc, refl, sym, ap, ◌∙◌, arith, add-one, chars, drop, length}
+use Rattle.std.proofs.Common.{◌≡◌, Err, suc, refl, sym, ap, ◌∙◌, arith, add-one, chars, drop, length}
 use Rattle.esgrep_patterns.specs.Seeking.{leftmost, IsTooLong}
 use Rattle.esgrep_patterns.proofs.HitLemmas.{sought-at, sought-end}
 use Rattle.esgrep_patterns.proofs.SeveralLemmas.{any-first, none-first, list-none}
-use Rattle.esgrep_patterns.proofs.BoundLemmas.{any-too_long}
+use Rattle.esgrep_patterns.proofs.BoundLemmas.{handed-same, any-too_long}
 use Rattle.esgrep_patterns.proofs.patterns.is_any_match.Goals as goal
 
 pub returns-in_err-has_match-clause-given : goal.returns-in_err-has_match-clause-given
 returns-in_err-has_match-clause-given c = λ err.
     any-too_long (IsTooLong c.args.steps c.args.text.now) c.args.regexes.now c.loop-regex.regex-index c.regex-item.result c.regex-item.is (omega (arith, c.loop-regex-test.true))
-    (c.in_err-has_match.ensures.given err)
+    (c.in_err-has_match.ensures.given (ap Err (handed-same c.from_residual.result _ _ c.from_residual.ensures.1 err)))
 
 pub returns-then-branch-clause-found : goal.returns-then-branch-clause-found
 returns-then-branch-clause-found c = λ ss seek.

@@ -1,7 +1,7 @@
-use Rattle.std.proofs.Common.{◌≡◌, None, refl, sym, ap, subst, ◌∙◌, arith, chars, drop, length}
+use Rattle.std.proofs.Common.{◌≡◌, None, Err, refl, sym, ap, subst, ◌∙◌, arith, chars, drop, length}
 use Rattle.esgrep_patterns.specs.Seeking.{leftmost_of, AreHits, IsTooLong}
 use Rattle.esgrep_patterns.proofs.HitLemmas.{sought-end, leftmost-step}
-use Rattle.esgrep_patterns.proofs.BoundLemmas.{any-too_long}
+use Rattle.esgrep_patterns.proofs.BoundLemmas.{handed-same, any-too_long}
 use Rattle.esgrep_patterns.proofs.patterns.Patterns.leftmost.Goals as goal
 
 pub loop-regex-init : goal.loop-regex-init
@@ -11,7 +11,7 @@ pub returns-in_err-next_match-clause-given : goal.returns-in_err-next_match-clau
 returns-in_err-next_match-clause-given c = λ err.
     any-too_long (IsTooLong c.args.self.now.steps c.args.text.now) c.args.self.now.regexes.items c.loop-regex.regex-index c.regex-item.result
     (rw c.deref-regex-items.ensures.value at c.regex-item.is) (omega (arith, c.loop-regex-test.true, ap length c.deref-regex-items.ensures.value))
-    (c.in_err-next_match.ensures.given err)
+    (c.in_err-next_match.ensures.given (ap Err (handed-same c.from_residual.result _ _ c.from_residual.ensures.1 err)))
 
 pub loop-regex-preserved : goal.loop-regex-preserved
 loop-regex-preserved c =
