@@ -17,8 +17,9 @@ fn parts<'t>(
 ) -> Result<Vec<&'t str>, SearchError> {
     let mut parts = Vec::new(alloc);
     for found in regex.within(steps).find_iter(text)? {
-        let found = found?;
-        parts.push(found.as_str(text))?;
+        if let Some(part) = text.get(found?.range()) {
+            parts.push(part)?;
+        }
     }
     Ok(parts)
 }

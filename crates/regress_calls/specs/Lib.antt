@@ -5,7 +5,6 @@ pub mod Buffers
 pub mod Texts
 pub mod Names
 pub mod Handles
-pub mod Stopping
 pub mod Refusals
 pub mod Compiling
 pub mod Slots
