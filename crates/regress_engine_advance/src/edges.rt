@@ -1,11 +1,11 @@
 //! What is asked of an offset: whether a line or a word begins or ends there.
-ghost use Rattle.std.specs.Prelude.{◌≡◌, ◌&&◌, ◌||◌, Bool, true, not, List, is_some};
+ghost use Rattle.std.specs.Prelude.{◌≡◌, ◌&&◌, ◌||◌, Bool, true, false, not, List, is_some, IfSome};
 ghost use Rattle.regress_meaning.specs.Class.{is_word};
 ghost use Rattle.regress_meaning.specs.Meaning.{is_line_end, is_some_and, word_at};
 ghost use Rattle.regress_meaning.specs.Steps.{point, at_boundary, only_if};
 ghost use Rattle.regress_engine_insn.specs.Instructions.{Program};
 ghost use Rattle.regress_engine_insn.specs.InsnViews.{instruction};
-ghost use Rattle.regress_engine_input.specs.Views.{direction_of, input_of, CanRead};
+ghost use Rattle.regress_engine_input.specs.Views.{are_bytes, direction_of, input_of, CanRead};
 ghost use Rattle.regress_engine_runs.specs.States.{Marks};
 ghost use Rattle.regress_engine_runs.specs.Runs.{advance};
 ghost use Rattle.regress_engine_singles.specs.Taking.{is_assertion};
@@ -14,6 +14,7 @@ use crate::reading::beside;
 use regress_engine_input::InputIndexer;
 use regress_engine_insn::Insn;
 use regress_engine_matchers::{CharInput, CharProperties};
+use regress_front_tables::is_ascii_word;
 
 /// Whether the text ends beside an offset, or in `multiline` a line: backward that is `^`, and forward `$`.
 #[inline]
@@ -73,6 +74,33 @@ pub fn word_beside<Input: CharInput>(
     }
 }
 
+/// Whether a word begins or ends at an offset of units, as `\b` asks where case is not folded: told at once where characters of
+/// ASCII stand on both sides, and elsewhere `None`. The offset may be any.
+///
+/// ```rust
+/// let edge = ascii_boundary(&input, &[0x61, 0x20], 1); // behind `a` and before a space `Some(true)`
+/// ```
+#[inline(always)]
+pub fn ascii_boundary<Input: InputIndexer>(
+    input: &Input,
+    units: &[u16],
+    offset: usize,
+) -> Option<bool>
+    requires kind { are_bytes (Input.view input.now).kind ≡ false }
+    requires units { units.now ≡ (Input.view input.now).units }
+    ensures { IfSome result (λ edge. edge ≡ at_boundary (input_of (Input.view input.now)) false offset) }
+{
+    if offset == 0 || offset >= units.len() {
+        return None;
+    }
+    let before = units[offset - 1];
+    let after = units[offset];
+    if before >= 0x80 || after >= 0x80 {
+        return None;
+    }
+    Some(is_ascii_word(u32::from(before)) != is_ascii_word(u32::from(after)))
+}
+
 /// Whether a word begins or ends at an offset, as `\b` asks; folded, where case is ignored in Unicode mode.
 ///
 /// Asks that characters may be read from the offset on.
@@ -85,6 +113,13 @@ pub fn boundary<Input: CharInput>(input: &Input, folded: bool, offset: usize) ->
     requires { CanRead (Input.view input.now) offset }
     ensures { result ≡ at_boundary (input_of (Input.view input.now)) folded offset }
 {
+    if !folded {
+        if let Some(units) = input.units() {
+            if let Some(edge) = ascii_boundary(input, units, offset) {
+                return edge;
+            }
+        }
+    }
     word_beside(input, folded, false, offset) != word_beside(input, folded, true, offset)
 }
 

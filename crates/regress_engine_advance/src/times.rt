@@ -11,10 +11,10 @@ ghost use Rattle.regress_engine_search.specs.Ready.{IsBody};
 ghost use Rattle.regress_engine_search.specs.Search.{Suits};
 
 use crate::advancing::advance;
+use crate::far::far_ahead;
 use regress_engine_code::CompiledRegex;
 use regress_engine_insn::Insn;
 use regress_engine_matchers::CharInput;
-use regress_engine_singles::as_far_ahead;
 use regress_front_core::GroupData;
 
 /// The offset behind so many iterations of an instruction that takes one character, where there are so many.
@@ -79,7 +79,7 @@ pub fn as_far<Input: CharInput>(
     ensures place { IsAtPlace (reading_of (Input.view input.now)) result }
 {
     if forward {
-        if let Some(far) = as_far_ahead(program, input, insn, times, offset) {
+        if let Some(far) = far_ahead(program, input, insn, times, offset) {
             return far;
         }
     }

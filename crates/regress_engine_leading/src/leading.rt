@@ -10,12 +10,12 @@ ghost use Rattle.regress_engine_singles.specs.Passed.{PassesOver};
 ghost use Rattle.regress_engine_leading.specs.Known.{BeginsAt, IsKnown};
 
 use crate::failing::{class_ahead, fails};
-use regress_engine_advance::{beside, boundary, is_dead, is_dead_ahead, is_word, word_beside};
+use regress_engine_advance::{beside, boundary, far_ahead, is_dead, is_dead_ahead, is_word, word_beside};
 use regress_engine_analysis::is_class;
 use regress_engine_code::CompiledRegex;
 use regress_engine_insn::Insn;
 use regress_engine_matchers::{CharInput, CharProperties};
-use regress_engine_singles::{as_far_ahead, is_assertion, is_possessive, takes_one};
+use regress_engine_singles::{is_assertion, is_possessive, takes_one};
 use regress_front_tables::is_ascii_word;
 
 /// So many instructions behind a run are looked at.
@@ -100,7 +100,7 @@ fn passed_from<Input: CharInput>(
         return None;
     }
     let near = class_ahead(program, input, first, start)?;
-    let far = as_far_ahead(program, input, body, *max_iters, near)?;
+    let far = far_ahead(program, input, body, *max_iters, near)?;
     if class_ahead(program, input, body, far).is_some()
         || !fails(program, input, LOOKED_AT, at + 3, far)
     {
