@@ -4,8 +4,7 @@
 //! `N rows, M answers, K wrong`. The exit status is 1 where one differs.
 #![tactic(auto)]
 
-use conformance_roads::run;
-use regress::Tables;
+use conformance_roads::{Tables, run};
 use std::process::ExitCode;
 
 fn main(rt: HostRuntime) -> ExitCode {

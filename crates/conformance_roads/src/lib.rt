@@ -7,6 +7,7 @@ mod running;
 mod trying;
 mod works;
 
+pub use regress::Tables;
 pub use report::Report;
 pub use running::run;
 pub use trying::try_rows;

@@ -4,8 +4,8 @@ use Rattle.regress_meaning.specs.Matches.{Item}
 use Rattle.regress_match.specs.declared.found.Match.{Match}
 use Rattle.regress_match.specs.Iterating.{coming_on, steps_on}
 use Rattle.regress_matched.specs.Giving.{GivesFound}
-use Rattle.regress_engine.specs.Search.{Search, IsMatchOf, items_from, places_behind}
-use Rattle.regress_engine.specs.Standing.{names_of}
+use Rattle.regress_engine_search.specs.Search.{Search, IsMatchOf, items_from, places_behind}
+use Rattle.regress_engine_code.specs.Standing.{names_of}
 use Rattle.regress_engine_exec.specs.declared.error.SearchError.{SearchError}
 use Rattle.regress_engine_exec.specs.BoundedSearches.{CountsStep}
 use Rattle.regress_engine_exec.specs.BoundedSearches as executor

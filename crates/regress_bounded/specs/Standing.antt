@@ -5,8 +5,8 @@ use Rattle.regress_meaning.specs.Pattern.{Pattern}
 use Rattle.regress_meaning.specs.Flags.{Options}
 use Rattle.regress_meaning.specs.Matches.{Item}
 use Rattle.regress_front.specs.Trees.{Tree}
-use Rattle.regress_engine.specs.Standing.{names_of, target_of}
-use Rattle.regress_engine.specs.Views.{Kind}
+use Rattle.regress_engine_code.specs.Standing.{names_of, target_of}
+use Rattle.regress_engine_input.specs.Views.{Kind}
 use Rattle.regress_engine_code.specs.declared.compiled.CompiledRegex.{CompiledRegex}
 use Rattle.regress_programs.specs.declared.compiled.Compiled.{Compiled}
 use Rattle.regress_programs.specs.declared.slots.Anchored.{Anchored}

@@ -3,8 +3,8 @@ use Rattle.std.specs.Prelude.{ℕ, List, Some}
 use Rattle.regress_meaning.specs.Flags.{is_unicode}
 use Rattle.regress_front_core.specs.FlagWords.{options}
 use Rattle.regress_front.specs.TableViews.{table}
-use Rattle.regress_engine.specs.Standing.{program_of}
-use Rattle.regress_engine.specs.Views.{Kind, View}
+use Rattle.regress_engine_code.specs.Standing.{program_of}
+use Rattle.regress_engine_input.specs.Views.{Kind, View}
 use Rattle.regress_engine_code.specs.declared.compiled.CompiledRegex.{CompiledRegex}
 use Rattle.regress_engine_trying.specs.Counting.{CountsRun}
 use Rattle.regress_engine_exec.specs.Counting.{CountsSearch}

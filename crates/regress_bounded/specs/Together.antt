@@ -5,9 +5,9 @@ use Rattle.regress_match.specs.declared.found.Match.{Match}
 use Rattle.regress_match.specs.Iterating.{coming_on}
 use Rattle.regress_match.specs.Views.{item_of}
 use Rattle.regress_matched.specs.Giving.{GivesMatches}
-use Rattle.regress_engine.specs.Search.{Search, StartsAt, items_from}
-use Rattle.regress_engine.specs.Standing.{program_of}
-use Rattle.regress_engine.specs.Views.{View}
+use Rattle.regress_engine_search.specs.Search.{Search, StartsAt, items_from}
+use Rattle.regress_engine_code.specs.Standing.{program_of}
+use Rattle.regress_engine_input.specs.Views.{View}
 use Rattle.regress_engine_search.specs.Budgets.{Spends}
 use Rattle.regress_engine_trying.specs.Counting.{most_counted}
 use Rattle.regress_engine_code.specs.declared.compiled.CompiledRegex.{CompiledRegex}

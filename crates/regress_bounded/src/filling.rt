@@ -3,16 +3,18 @@ ghost use Rattle.std.specs.Prelude.{◌≡◌, ℕ, IfOk, IfSome, IsErrOf, OnErr
 ghost use Rattle.regress_meaning.specs.Offsets.{Begins};
 ghost use Rattle.regress_front.specs.Trees.{Tree};
 ghost use Rattle.regress_match.specs.Slots.{Fills};
-ghost use Rattle.regress_engine.specs.Search.{IsMadeOf};
-ghost use Rattle.regress_engine.specs.Standing.{target_of};
-ghost use Rattle.regress_engine.specs.Views.{reading_of};
+ghost use Rattle.regress_engine_search.specs.Search.{IsMadeOf};
+ghost use Rattle.regress_engine_code.specs.Standing.{target_of};
+ghost use Rattle.regress_engine_input.specs.Views.{reading_of};
 ghost use Rattle.regress_engine_exec.specs.BoundedSearches.{steps_of};
 ghost use Rattle.regress_programs.specs.declared.slots.Anchored.TheVariants.{Yes};
 ghost use Rattle.regress_programs.specs.Filling.{SlotsAreAtPlaces, first_told};
 ghost use Rattle.regress_programs.specs.Programs.{IsLaidOutFrom};
 ghost use Rattle.regress_bounded.specs.Stopping.{TakesAll};
 
-use regress_engine::{BoundedExecutor, CompiledRegex, ExecutorInput, Scratch, SearchError};
+use regress_engine_code::CompiledRegex;
+use regress_engine_exec::{BoundedExecutor, Scratch, SearchError};
+use regress_engine_search::ExecutorInput;
 use regress_match::Range;
 use regress_programs::Anchored;
 use std::alloc::Global;

@@ -2,13 +2,14 @@
 ghost use Rattle.std.specs.Prelude.{◌≡◌, ℕ};
 ghost use Rattle.std.specs.Iterator.{at_most};
 ghost use Rattle.regress_meaning.specs.Offsets.{Begins};
-ghost use Rattle.regress_engine.specs.Search.{StartsAt, IsMadeOf};
-ghost use Rattle.regress_engine.specs.Views.{reading_of};
+ghost use Rattle.regress_engine_search.specs.Search.{StartsAt, IsMadeOf};
+ghost use Rattle.regress_engine_input.specs.Views.{reading_of};
 ghost use Rattle.regress_programs.specs.Positions.{IsPlaced, IsPlaced-prop};
 
-use regress_engine::{
-    BoundedExecutor, CompiledRegex, ExecutorInput, Scratch, SearchError, Shown, Utf8Input,
-};
+use regress_engine_code::CompiledRegex;
+use regress_engine_exec::{BoundedExecutor, Scratch, SearchError};
+use regress_engine_inputs::Utf8Input;
+use regress_engine_search::{ExecutorInput, Shown};
 use regress_match::Match;
 use regress_matched::TextMatches;
 use std::alloc::Global;

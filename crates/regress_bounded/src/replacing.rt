@@ -11,11 +11,11 @@ ghost use Rattle.regress_replacing.specs.Syntax.{replacement_text};
 ghost use Rattle.regress_replacing.specs.SyntaxViews.{syntax_of, text_of};
 ghost use Rattle.regress_matched.specs.Answering.{AnswersEach, RefusesOne};
 ghost use Rattle.regress_front.specs.Trees.{Tree};
-ghost use Rattle.regress_engine.specs.Views.{utf8};
+ghost use Rattle.regress_engine_input.specs.Views.{utf8};
 ghost use Rattle.regress_bounded.specs.Standing.{StandsFor, HasTree, tree_list, names_within, TakesAllAlongBytes};
 
 use crate::bounded::Bounded;
-use regress_engine::SearchError;
+use regress_engine_exec::SearchError;
 use regress_match::Match;
 use regress_replacing::{AnyReplacement, ReplacementSyntax};
 

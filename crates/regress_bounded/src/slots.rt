@@ -7,13 +7,14 @@ ghost use Rattle.regress_meaning.specs.Matches.{match_list};
 ghost use Rattle.regress_meaning.specs.Offsets.{Begins, characters, of_ucs2, of_utf8, of_utf16, told};
 ghost use Rattle.regress_front.specs.Trees.{Tree};
 ghost use Rattle.regress_match.specs.Slots.{Fills};
-ghost use Rattle.regress_engine.specs.Views.{ucs2, utf8, utf16};
+ghost use Rattle.regress_engine_input.specs.Views.{ucs2, utf8, utf16};
 ghost use Rattle.regress_programs.specs.declared.slots.Anchored.TheVariants.{No, Yes};
 ghost use Rattle.regress_programs.specs.Outcomes.{outcome_at};
 
 use crate::bounded::Bounded;
 use crate::filling::find_into_within;
-use regress_engine::{Scratch, SearchError, Ucs2Input, Utf8Input, Utf16Input};
+use regress_engine_exec::{Scratch, SearchError};
+use regress_engine_inputs::{Ucs2Input, Utf8Input, Utf16Input};
 use regress_match::Range;
 use regress_programs::Anchored;
 

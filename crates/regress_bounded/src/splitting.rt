@@ -8,12 +8,13 @@ ghost use Rattle.regress_meaning.specs.Offsets.{of_utf8, told};
 ghost use Rattle.regress_meaning.specs.Parts.{parts, first_parts};
 ghost use Rattle.regress_matched.specs.Giving.{ErrsOnlyIf};
 ghost use Rattle.regress_front.specs.Trees.{Tree};
-ghost use Rattle.regress_engine.specs.Views.{utf8};
+ghost use Rattle.regress_engine_input.specs.Views.{utf8};
 ghost use Rattle.regress_bounded.specs.Standing.{StandsFor, HasTree, tree_list, TakesAllAlongBytes};
 
 use crate::bounded::Bounded;
 use crate::matches::BoundedMatches;
-use regress_engine::{SearchError, Utf8Input};
+use regress_engine_exec::SearchError;
+use regress_engine_inputs::Utf8Input;
 use regress_matched::{Split, SplitN};
 
 /// The parts of a text between the matches of a pattern, in so many steps for all of them together: from `Bounded::split`.

@@ -8,8 +8,8 @@ ghost use Rattle.regress_meaning.specs.Offsets.{Begins, characters, of_ucs2, of_
 ghost use Rattle.regress_front.specs.Trees.{Tree};
 ghost use Rattle.regress_match.specs.Views.{item_of};
 ghost use Rattle.regress_matched.specs.Giving.{ErrsOnlyIf};
-ghost use Rattle.regress_engine.specs.Search.{StartsAt};
-ghost use Rattle.regress_engine.specs.Views.{ucs2, utf16};
+ghost use Rattle.regress_engine_search.specs.Search.{StartsAt};
+ghost use Rattle.regress_engine_input.specs.Views.{ucs2, utf16};
 ghost use Rattle.regress_programs.specs.declared.slots.Anchored.TheVariants.{Yes};
 ghost use Rattle.regress_programs.specs.Coming.{HoldsOfEach};
 ghost use Rattle.regress_programs.specs.Outcomes.{outcome_at};
@@ -18,7 +18,8 @@ ghost use Rattle.regress_programs.specs.Units.{IsMatchInUnits};
 use crate::bounded::Bounded;
 use crate::matches::BoundedMatches;
 use crate::searching::first_within;
-use regress_engine::{SearchError, Ucs2Input, Utf16Input};
+use regress_engine_exec::SearchError;
+use regress_engine_inputs::{Ucs2Input, Utf16Input};
 use regress_match::Match;
 use regress_programs::Anchored;
 

@@ -1,2 +1,4 @@
 pub mod Attempts
 pub mod Turns
+pub use Rattle.regress_engine_trying.specs.Counting
+pub use Rattle.regress_engine_trying.specs.Trying

@@ -21,8 +21,8 @@ use Rattle.regress_engine_search.specs.Answering.{FindsOn}
 use Rattle.regress_engine_search.specs.Search.{IsSearchable}
 use Rattle.regress_engine_search.proofs.PlaceLemmas.{moves}
 use Rattle.regress_engine_search.specs.Budgets.{Spends}
-use Rattle.regress_engine_trying.specs.Counting.{most_counted, RunsIn, CountsRun}
-use Rattle.regress_engine_trying.proofs.CountLemmas.{most-adds, most-more, spends-none, spends-then, spends-more}
+use Rattle.regress_engine_attempt.specs.Counting.{most_counted, RunsIn, CountsRun}
+use Rattle.regress_engine_attempt.proofs.CountLemmas.{most-adds, most-more, spends-none, spends-then, spends-more}
 use Rattle.regress_engine_exec.specs.Counting.{Takes, answered, further, CountsSearch, CountsUpTo}
 use Rattle.regress_engine_exec.specs.Counting as counting
 

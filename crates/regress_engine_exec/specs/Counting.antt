@@ -5,7 +5,7 @@ use Rattle.regress_engine_input.specs.Views.{View, input_of}
 use Rattle.regress_engine_insn.specs.Instructions.{Program}
 use Rattle.regress_engine_runs.specs.States.{Whole}
 use Rattle.regress_engine_search.specs.Budgets.{Spends}
-use Rattle.regress_engine_trying.specs.Counting.{RunsIn, most_counted}
+use Rattle.regress_engine_attempt.specs.Counting.{RunsIn, most_counted}
 
 module _ (program : Program) (v : View) where
   -- The runs of a search from an offset on take so many steps in all.

@@ -9,7 +9,7 @@ ghost use Rattle.regress_engine_runs.specs.Meets.{IsAtPlace};
 ghost use Rattle.regress_engine_search.specs.Answering.{IsAnswer, IsFound, IsOutcome};
 ghost use Rattle.regress_engine_search.specs.Search.{IsMadeOf, IsItemAtPlaces, IsWritten};
 ghost use Rattle.regress_engine_attempt.specs.Attempts.{Remembers, world_of};
-ghost use Rattle.regress_engine_trying.specs.Counting.{CountsRun};
+ghost use Rattle.regress_engine_attempt.specs.Counting.{CountsRun};
 ghost use Rattle.regress_engine_exec.specs.Counting.{CountsSearch};
 
 use crate::error::SearchError;

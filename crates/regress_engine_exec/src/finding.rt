@@ -6,7 +6,7 @@ ghost use Rattle.regress_engine_runs.specs.Meets.{IsAtPlace};
 ghost use Rattle.regress_engine_search.specs.Answering.{IsAnswer, IsFound};
 ghost use Rattle.regress_engine_search.specs.Ending.{IfEnded, IfStopped};
 ghost use Rattle.regress_engine_attempt.specs.Attempts.{Remembers, searched};
-ghost use Rattle.regress_engine_trying.specs.Counting.{CountsRun};
+ghost use Rattle.regress_engine_attempt.specs.Counting.{CountsRun};
 ghost use Rattle.regress_engine_exec.specs.Counting.{CountsSearch};
 ghost use Rattle.regress_engine_exec.specs.Searches.{groups_of};
 

@@ -7,11 +7,10 @@ use Rattle.regress_engine_insn.specs.Instructions as code
 use Rattle.regress_engine_search.specs.Tasks.{Task, Leads}
 use Rattle.regress_engine_search.proofs.TaskLemmas.{leads-then}
 use Rattle.regress_engine_singles.specs.Failing.{IsDead}
-use Rattle.regress_engine_leading.specs.Known.{Comes}
 use Rattle.regress_engine_undo.specs.declared.undo.Spot.{Spot}
 use Rattle.regress_engine_undo.specs.Held.{Held}
 use Rattle.regress_engine_undo.specs.Tasks.{task}
-use Rattle.regress_engine_undo.proofs.DispatchLemmas.{first-dead, second-dead, take-some}
+use Rattle.regress_engine_undo.proofs.DispatchLemmas.{first-dead, second-dead}
 use Rattle.regress_engine_trying.specs.Trying.{IsWay}
 
 module _ (program : Program) (input : Input) (forward : Bool) (o : ℕ) where
@@ -48,10 +47,3 @@ module _ (program : Program) (input : Input) (forward : Bool) (o : ℕ) where
   -- none yet
   pub way-here : (start : ℕ) → IsWay program input forward o start start
   way-here start h = inl refl
-
--- where a run comes to
-pub way-comes : (program : Program) (input : Input) (o first : ℕ) → Comes program input o first → IsWay program input true o 0 first
-way-comes program input o first (inl none) h = inl none
-way-comes program input o first (inr (one, (i, (here, simple, takes)))) h =
-    inr (subst (λ a. Leads program input 1 (task program input true (record { at = 0; offset = o; forward = true }) h) (task program input true (record { at = a; offset = o; forward = true }) h)) (sym one)
-    (take-some program input i (record { at = 0; offset = o; forward = true }) h o here simple (takes h.groups)))

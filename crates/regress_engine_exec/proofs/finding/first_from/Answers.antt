@@ -13,7 +13,7 @@ use Rattle.regress_engine_singles.specs.Passed.{PassesOver}
 use Rattle.regress_engine_undo.specs.Held.{held}
 use Rattle.regress_engine_leading.specs.Known.{IsKnown}
 use Rattle.regress_engine_search.specs.Ending.{IfEnded}
-use Rattle.regress_engine_trying.proofs.WayLemmas.{way-comes}
+use Rattle.regress_engine_exec.proofs.BeginLemmas.{way-comes}
 use Rattle.regress_engine_exec.proofs.CountLemmas.{counts-first, counts-past, counts-over, counts-ends, counts-on, counted-answer}
 use Rattle.regress_engine_exec.proofs.finding.first_from.Goals as goal
 

@@ -1,6 +1,6 @@
 use Rattle.std.proofs.Common.{subst}
 use Rattle.regress_engine_attempt.specs.Attempts.{Remembers, world_of}
-use Rattle.regress_engine_trying.proofs.RememberLemmas.{remembers-anyway}
+use Rattle.regress_engine_attempt.proofs.RememberLemmas.{remembers-anyway}
 use Rattle.regress_engine_exec.proofs.bounded.BoundedExecutor.search.Goals as goal
 
 pub first_from-requires-clause-so : goal.first_from-requires-clause-so

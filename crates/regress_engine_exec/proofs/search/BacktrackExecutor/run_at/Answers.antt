@@ -1,6 +1,6 @@
 use Rattle.std.proofs.Common.{subst}
 use Rattle.regress_engine_attempt.specs.Attempts.{Remembers, world_of}
-use Rattle.regress_engine_trying.proofs.RememberLemmas.{remembers-anyway}
+use Rattle.regress_engine_attempt.proofs.RememberLemmas.{remembers-anyway}
 use Rattle.regress_engine_exec.proofs.search.BacktrackExecutor.run_at.Goals as goal
 
 pub run_from-requires-clause-so : goal.run_from-requires-clause-so
