@@ -118,7 +118,9 @@ enum regress_code {
   /* Two handles of one call are the same. */
   REGRESS_SAME_HANDLE = -17,
   /* A program of the pattern may have more instructions than the limit allows. */
-  REGRESS_PAST_LIMIT = -18
+  REGRESS_PAST_LIMIT = -18,
+  /* A search for a match would take more steps than regress_search_set_max_steps allows it. */
+  REGRESS_TOO_MANY_STEPS = -19
 };
 
 /* A handle: {0}, or what a call put there. */
@@ -184,6 +186,7 @@ int32_t regress_raw_replace_all(regress_pattern *pattern, const uint8_t *text, s
 int32_t regress_raw_escape(const uint8_t *text, size_t length, uint8_t *buffer, size_t room, size_t *written);
 int32_t regress_raw_error_text(int32_t code, uint8_t *buffer, size_t room, size_t *written);
 int32_t regress_raw_search_new(regress_pattern *pattern, regress_search *out);
+int32_t regress_raw_search_set_max_steps(regress_search *search, size_t steps);
 
 int32_t regress_raw_find(regress_search *search, const uint8_t *text, size_t length, size_t start, regress_range *ranges,
                          size_t count);
@@ -466,6 +469,24 @@ static inline int32_t regress_search_new(regress_pattern *pattern, regress_searc
   return regress_raw_search_new(pattern, out);
 }
 
+/* Bounds how many steps each search for a match may take by `search` from now on. A service sets it for patterns and texts of
+ * strangers, since a short pattern may take very long in a short text. SIZE_MAX takes the bound away; at first there is none.
+ *
+ * With a bound each call answers what it answers without, or REGRESS_TOO_MANY_STEPS where it would take more steps; then it has
+ * written no range. regress_find, regress_match_at, regress_is_match and their kin each search for one match. regress_find_many and
+ * its kin have the steps anew for each match that they look for, the one that is not there too: so a call with room for n matches
+ * takes at most n times as many.
+ *
+ * A step does the instruction of one state of the pattern's program, or drops the state. One more is counted for each 64 bytes or
+ * units that a class passes over or that a back reference compares. A search for the next place where a match may begin is one step
+ * however long it is. No clock plays a part: in one version of the library the same search stops at the same step everywhere.
+ *
+ * The bound is the handle's alone: another search of the same pattern has its own, and calls that take a pattern have none. The
+ * caller keeps: no other call has the search. */
+static inline int32_t regress_search_set_max_steps(regress_search *search, size_t steps) {
+  return search == NULL ? REGRESS_NULL : regress_raw_search_set_max_steps(search, steps);
+}
+
 /* Finds the first match from `start` on ("RegExpBuiltinExec").
  *
  * Answers how many ranges the match has: 1 for the whole match, and 1 for each capturing group; or 0 where there is none. Writes
@@ -610,8 +631,9 @@ static inline int32_t regress_is_match_ucs2(regress_search *search, const uint16
  * ranges[k * width + g], where group 0 is the whole match. `found` tells how many matches there are. `start` then tells where the
  * search goes on: call again with it for the matches behind. Once there are no more, it is REGRESS_UNSET, and none is found.
  *
- * Where memory is refused, the answer is REGRESS_OUT_OF_MEMORY, and `found` and `start` tell of the matches before. Where `width`
- * is 0 or more than `count`, it is REGRESS_NO_ROOM. Any other error leaves `found` and `start` as they were.
+ * Where memory is refused, the answer is REGRESS_OUT_OF_MEMORY, and `found` and `start` tell of the matches before. So they do where
+ * it is REGRESS_TOO_MANY_STEPS: the search from `start` on takes more steps than it may. Where `width` is 0 or more than `count`, it is
+ * REGRESS_NO_ROOM. Any other error leaves `found` and `start` as they were.
  *
  * The caller keeps: `text` points to `length` bytes, `ranges` has room for `count` ranges, `start` and `found` point to a number each
  * that lies in no other argument, and no other call has the search. */

@@ -8,6 +8,12 @@ Patterns, flags and replacement texts are those of ECMAScript: flags are a text 
 stands for the text of the first group, `$<name>` for that of a named one, and `$&` for the match. Offsets are in code points, as
 Python has them, and texts are `str`. A pattern is refused by the exception `error`, which has the place.
 
+A service that takes patterns or texts of strangers sets `limit`, what a pattern may become, and `max_steps`, how long it may search:
+
+    >>> regress.compile(r"^(\\w|\\w\\w)*!$", max_steps=1000).search("a" * 40 + "?!")
+    Traceback (most recent call last):
+    regress.TooManySteps: too many steps
+
 The library is `libregress.so`: the one that the variable REGRESS_LIBRARY of the environment names, else the one beside this file,
 else that of the repository, else that of the system. It is called through `ctypes.PyDLL`, so the interpreter's lock is held while a
 call runs: a handle is in one call at a time, as the library asks, and other threads wait. An interpreter without that lock is
@@ -27,7 +33,7 @@ from array import array
 from types import MappingProxyType
 
 __all__ = [
-    "LIMIT", "Match", "Pattern", "compile", "error", "escape", "findall", "finditer", "fullmatch", "match", "purge", "search",
+    "LIMIT", "Match", "Pattern", "TooManySteps", "compile", "error", "escape", "findall", "finditer", "fullmatch", "match", "purge", "search",
     "split", "sub", "subn",
 ]
 
@@ -36,7 +42,7 @@ __all__ = [
 # ----------------------------------------------------------------------------------------------------------------------------
 
 _UNSET = ctypes.c_size_t(-1).value
-_OUT_OF_MEMORY, _NO_ROOM, _SYNTAX, _FLAG_ERRORS = -1, -6, -7, (-12, -13, -14)
+_OUT_OF_MEMORY, _NO_ROOM, _SYNTAX, _FLAG_ERRORS, _TOO_MANY_STEPS = -1, -6, -7, (-12, -13, -14), -19
 _Size, _SizeOut, _Bytes, _Code = ctypes.c_size_t, ctypes.POINTER(ctypes.c_size_t), ctypes.c_void_p, ctypes.c_int32
 
 
@@ -85,6 +91,7 @@ _compile = _call("compile_within", *_source)
 _compile_whole = _call("compile_whole_within", *_source)
 _compile_units = _call("compile_units_within", *_source)
 _search_new = _call("search_new", _HandleOut, _HandleOut)
+_search_set_max_steps = _call("search_set_max_steps", _HandleOut, _Size)
 _group_count = _call("group_count", _HandleOut)
 _group_name = _call("group_name", _HandleOut, _Size, *_copy)
 _replace = _call("replace", _HandleOut, _Bytes, _Size, _Bytes, _Size, *_copy)
@@ -121,6 +128,10 @@ class error(re.error):
 
     def __reduce__(self):
         return type(self), (self.msg, self.pattern, self.pos, self.code)
+
+
+class TooManySteps(error):
+    """A search for a match would take more steps than its pattern has in `max_steps`. `pattern` is the text of that pattern."""
 
 
 def _copied(call, *words, guess=64):
@@ -320,10 +331,20 @@ def _compiled(source, flags, limit, is_whole=False):
     return handle
 
 
-def _search_of(pattern):
+def _search_of(pattern, max_steps):
     search = _Handle()
     _check(_search_new(pattern, search))
+    if max_steps is not None:
+        _check(_search_set_max_steps(search, min(max_steps, _UNSET)))
     return search
+
+
+def _index(number, name):
+    """A number that is not negative."""
+    number = operator.index(number)
+    if number < 0:
+        raise ValueError(f"{name} is not negative")
+    return number
 
 
 # How many instructions a program of a pattern may have, where nothing else is said: `REGRESS_DEFAULT_LIMIT`.
@@ -336,17 +357,17 @@ class Pattern:
     """A compiled pattern. `compile` makes one; it may be copied, pickled, compared and used as a key."""
 
     __slots__ = (
-        "pattern", "flags", "limit", "groups", "groupindex", "_numbers", "_compiled", "_search", "_whole", "_ending", "__weakref__",
+        "pattern", "flags", "limit", "max_steps", "groups", "groupindex", "_numbers", "_compiled", "_search", "_whole", "_ending",
+        "__weakref__",
     )
 
-    def __init__(self, pattern, flags="", limit=LIMIT):
+    def __init__(self, pattern, flags="", limit=LIMIT, max_steps=None):
         if not isinstance(pattern, str) or not isinstance(flags, str):
             raise TypeError("a pattern and its flags are strings")
-        self.pattern, self.flags, self.limit, self._whole, self._ending = pattern, flags, operator.index(limit), None, None
-        if self.limit < 0:
-            raise ValueError("a limit is not negative")
+        self.pattern, self.flags, self.limit, self._whole, self._ending = pattern, flags, _index(limit, "a limit"), None, None
+        self.max_steps = None if max_steps is None else _index(max_steps, "a number of steps")
         self._compiled = _compiled(pattern, flags, self.limit)
-        self._search = _search_of(self._compiled)
+        self._search = _search_of(self._compiled, self.max_steps)
         self.groups = _group_count(self._compiled)
         self._numbers = self._numbers_by_name()
         # The number of each name's first group, as a mapping that can't be written.
@@ -362,7 +383,7 @@ class Pattern:
         return names
 
     def __reduce__(self):
-        return compile, (self.pattern, self.flags, self.limit)
+        return compile, (self.pattern, self.flags, self.limit, self.max_steps)
 
     def __copy__(self):
         return self
@@ -373,13 +394,20 @@ class Pattern:
     def __eq__(self, other):
         if not isinstance(other, Pattern):
             return NotImplemented
-        return (self.pattern, self.flags) == (other.pattern, other.flags)
+        return (self.pattern, self.flags, self.max_steps) == (other.pattern, other.flags, other.max_steps)
 
     def __hash__(self):
-        return hash((self.pattern, self.flags))
+        return hash((self.pattern, self.flags, self.max_steps))
 
     def __repr__(self):
-        return f"regress.compile({self.pattern!r}, {self.flags!r})"
+        bound = "" if self.max_steps is None else f", max_steps={self.max_steps}"
+        return f"regress.compile({self.pattern!r}, {self.flags!r}{bound})"
+
+    def _check(self, code):
+        """Raises what a search tells, where it is an error."""
+        if code == _TOO_MANY_STEPS:
+            raise TooManySteps(_copied(_error_text, code), self.pattern, None, code)
+        _check(code)
 
     def _one(self, call, search, string, pos, endpos):
         """The match that one call finds in a part of a string, if any."""
@@ -387,7 +415,7 @@ class Pattern:
         width = self.groups + 1
         ends = (ctypes.c_size_t * (2 * width))()
         code = getattr(text.calls, call)(search, text.address, text.length, start, ends, width)
-        _check(code)
+        self._check(code)
         return Match(self, string, pos, endpos, text, ends[:]) if code > 0 else None
 
     def _all(self, text, start):
@@ -402,7 +430,7 @@ class Pattern:
             for first in range(0, len(told), 2 * width):
                 yield told[first:first + 2 * width]
             count = max(count, min(2 * count, 64, 4096 // width))
-        _check(code)
+        self._check(code)
 
     def search(self, string, pos=0, endpos=sys.maxsize):
         """The first match from `pos` on, or None. What lies before `pos` is still seen by `^`, `\\b` and lookbehind; what lies from
@@ -422,9 +450,11 @@ class Pattern:
         """A search of the pattern where it has to end with the text: of the library's whole texts, or behind `pos`, where these
         never begin, of the pattern in a group before the end."""
         if pos <= 0:
-            self._whole = self._whole or _search_of(_compiled(self.pattern, self.flags, self.limit + _ENDS, is_whole=True))
+            if self._whole is None:
+                self._whole = _search_of(_compiled(self.pattern, self.flags, self.limit + _ENDS, is_whole=True), self.max_steps)
             return self._whole
-        self._ending = self._ending or _search_of(_compiled(_ended(self.pattern), self.flags, self.limit + _ENDS))
+        if self._ending is None:
+            self._ending = _search_of(_compiled(_ended(self.pattern), self.flags, self.limit + _ENDS), self.max_steps)
         return self._ending
 
     def finditer(self, string, pos=0, endpos=sys.maxsize):
@@ -458,7 +488,7 @@ class Pattern:
         """The string with its first `count` matches (0: all) replaced: by a template of ECMAScript, or by what a function answers
         for the match."""
         call = {0: _replace_all, 1: _replace}.get(count)
-        if call is None or callable(repl):
+        if call is None or callable(repl) or self.max_steps is not None:  # these two calls have no bound
             return self.subn(repl, string, count)[0]
         try:
             text, template = string.encode(), repl.encode()
@@ -607,17 +637,22 @@ _REFERENCE = re.compile(r"\$([$&`']|[0-9]{1,2}|<[^>]*>)")
 _pattern = functools.lru_cache(maxsize=512)(Pattern)
 
 
-def compile(pattern, flags="", limit=LIMIT):
+def compile(pattern, flags="", limit=LIMIT, max_steps=None):
     """Compiles a pattern, with a text of ECMAScript's flags; `d`, `g` and `y` are taken and change nothing. The patterns that were
     compiled last are kept.
 
     A pattern is refused where a program of it, for texts in bytes or in units, may have more instructions than `limit`. That is told
-    before anything of that size is made: a short pattern by a stranger may stand for a very large program."""
+    before anything of that size is made: a short pattern by a stranger may stand for a very large program.
+
+    With `max_steps` each search for a match may take so many steps, or `TooManySteps` is raised: a short pattern may take very long in
+    a short text. A step does the instruction of one state of the pattern's program, or drops the state; one more is counted for each
+    64 bytes or units that a class passes over or that a back reference compares. What finds several matches, as `finditer` and `sub`,
+    has the steps anew for each match that it looks for. No clock plays a part: the same search stops at the same step everywhere."""
     if isinstance(pattern, Pattern):
-        if flags or limit != LIMIT:
-            raise ValueError("a compiled pattern has its flags and its limit")
+        if flags or limit != LIMIT or max_steps is not None:
+            raise ValueError("a compiled pattern has its flags, its limit and its steps")
         return pattern
-    return _pattern(pattern, flags, limit)
+    return _pattern(pattern, flags, limit, max_steps)
 
 
 def purge():

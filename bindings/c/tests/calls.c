@@ -230,6 +230,32 @@ static void finding_many(void) {
   CHECK(regress_find_many_utf16(&search, NULL, 0, &start, ranges, 4, 1, &found) == REGRESS_OK && found == 0);
 }
 
+/* The bound is each search's own: a match that needs more steps stops the call, and those before it are told. */
+static void bounding(void) {
+  regress_pattern list = {0};
+  regress_search bounded = {0};
+  regress_range ranges[2] = {{7, 7}, {7, 7}};
+  size_t steps = 0, start = 0, found = 99;
+  CHECK(regress_compile(TEXT("(?:(a)|b)*c"), "", &tables, &list, NULL) == REGRESS_OK);
+  CHECK(regress_search_new(&list, &bounded) == REGRESS_OK);
+  CHECK(regress_search_set_max_steps(&bounded, 0) == REGRESS_OK);
+  while (regress_find(&bounded, TEXT("bc abababababababababc"), 0, ranges, 2) == REGRESS_TOO_MANY_STEPS && steps < 1000) {
+    CHECK(is_untouched(ranges, 2));
+    CHECK(regress_search_set_max_steps(&bounded, ++steps) == REGRESS_OK);
+  }
+  CHECK(steps > 0 && steps < 100 && ranges[0].start == 0 && ranges[0].end == 2);
+  CHECK(regress_match_at(&bounded, TEXT("bc abababababababababc"), 3, ranges, 2) == REGRESS_TOO_MANY_STEPS);
+  CHECK(regress_is_match(&bounded, TEXT("bc abababababababababc"), 1) == 1);
+  CHECK(regress_is_match(&bounded, TEXT("bc abababababababababc"), 3) == REGRESS_TOO_MANY_STEPS);
+  CHECK(regress_find_many(&bounded, TEXT("bc abababababababababc"), &start, ranges, 2, 1, &found) == REGRESS_TOO_MANY_STEPS);
+  CHECK(found == 1 && start == 2 && ranges[0].end == 2);
+  CHECK(regress_search_set_max_steps(&bounded, SIZE_MAX) == REGRESS_OK);
+  CHECK(regress_find_many(&bounded, TEXT("bc abababababababababc"), &start, ranges, 2, 1, &found) == REGRESS_OK);
+  CHECK(found == 1 && start == REGRESS_UNSET && ranges[0].start == 3 && ranges[0].end == 22);
+  regress_free(&bounded);
+  regress_free(&list);
+}
+
 static void empty_matches(void) {
   regress_pattern empty = {0};
   regress_search of_empty = {0};
@@ -256,6 +282,7 @@ int main(void) {
   replacing();
   searching();
   finding_many();
+  bounding();
   empty_matches();
   regress_free(&search);
   regress_free(&pattern);

@@ -134,6 +134,21 @@ static void fewer_ranges(const kind_of_text *kind) {
   }
 }
 
+/* Each call is refused where it takes more steps than it may, each time anew, and without a bound it answers as before. */
+static void bounds_of_searches(const kind_of_text *kind, int call) {
+  given with = right_for(kind);
+  with.start = 2;
+  CHECK(regress_search_set_max_steps(&search, 0) == REGRESS_OK);
+  for (int time = 0; time < 2; time++) {
+    CHECK(answer(kind, call, &with) == REGRESS_TOO_MANY_STEPS);
+    CHECK(are_as_made(0) && next == with.start && found == (call == FIND_MANY ? 0 : MARK));
+  }
+  CHECK(regress_search_set_max_steps(&search, 1000) == REGRESS_OK);
+  int32_t bounded = answer(kind, call, &with);
+  CHECK(regress_search_set_max_steps(&search, SIZE_MAX) == REGRESS_OK);
+  CHECK(bounded >= 0 && bounded == answer(kind, call, &with));
+}
+
 static void searches(void) {
   for (const kind_of_text *kind = kinds; kind < kinds + KINDS; kind++) {
     trying = kind->name;
@@ -141,6 +156,7 @@ static void searches(void) {
       handles_of_searches(kind, call);
       texts_of_searches(kind, call);
       rooms_of_searches(kind, call);
+      bounds_of_searches(kind, call);
     }
     fewer_ranges(kind);
   }
@@ -239,6 +255,14 @@ static void asking(void) {
   CHECK(regress_group_name(&pattern, 3, buffer, BYTES, &written) == REGRESS_NO_GROUP);
 }
 
+static void bounding(void) {
+  regress_handle *const wrong[] = {&empty, &freed, &tables, &pattern};
+  trying = "bounding";
+  for (size_t k = 0; k < COUNT(wrong); k++) CHECK(regress_search_set_max_steps(wrong[k], 1) == REGRESS_WRONG_HANDLE);
+  CHECK(regress_search_set_max_steps(NULL, 1) == REGRESS_NULL);
+  CHECK(regress_is_match(&search, "aab", 3, 0) == 1);
+}
+
 /* A handle that a call is to fill holds what it held where the call fails. */
 static void making(void) {
   regress_handle *const no_pattern[] = {&empty, &freed, &tables, &search}, *const not_shared[] = {&empty, &freed, &search};
@@ -311,6 +335,7 @@ int main(void) {
   copies();
   texts_of_copies();
   asking();
+  bounding();
   making();
   for (int by = 0; by < COMPILERS; by++) {
     trying = names[by];

@@ -83,6 +83,7 @@ static int is_short_of(int32_t (*call)(void), unsigned long requests) {
 static regress_search search;
 static regress_range ranges[8];
 static size_t start, found;
+static size_t steps; /* how many steps a search may take */
 static int found_before; /* whether a search of many was refused memory behind a match */
 
 static const char text[] = "c ababababababababababababababababababababababababababababababababababababababc";
@@ -95,6 +96,7 @@ static int32_t find_many(void) { return regress_find_many(&search, text, sizeof 
 /* The same of a search. One that was refused memory finds all once it is asked again, behind what it found before. */
 static int is_search_short_of(int32_t (*call)(void), int32_t right, unsigned long requests) {
   CHECK(regress_search_new(&pattern, &search) == REGRESS_OK);
+  CHECK(regress_search_set_max_steps(&search, steps) == REGRESS_OK);
   start = found = 0;
   granted = requests;
   was_refused = 0;
@@ -124,10 +126,11 @@ int main(void) {
     while (is_short_of(calls[k].call, requests)) requests++;
     CHECK((requests > 0) == calls[k].requests);
   }
-  for (size_t k = 0; k < sizeof searches / sizeof *searches; k++) {
+  for (size_t k = 0; k < 2 * (sizeof searches / sizeof *searches); k++) {
     unsigned long requests = 0;
-    trying = searches[k].name;
-    while (is_search_short_of(searches[k].call, searches[k].right, requests)) requests++;
+    steps = k % 2 == 0 ? SIZE_MAX : 1000000;
+    trying = searches[k / 2].name;
+    while (is_search_short_of(searches[k / 2].call, searches[k / 2].right, requests)) requests++;
     CHECK(requests > 0);
   }
   CHECK(found_before);

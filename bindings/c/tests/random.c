@@ -78,7 +78,7 @@ static void search(void) {
       code = kind->find_many(from, text, length, &start, ranges, count, below(4), &found);
       CHECK(code <= 0 && (code != 0 || found <= count));
   }
-  CHECK(code >= REGRESS_PAST_LIMIT && (!is_wrong || code < 0));
+  CHECK(code >= REGRESS_TOO_MANY_STEPS && (!is_wrong || code < 0));
   matches += code > 0 || found > 0;
   refusals += code < 0;
 }
@@ -88,7 +88,7 @@ static void make(void) {
   regress_error error = {0, 0, ""};
   regress_handle *tables = any_handle(TABLES), *pattern = any_handle(PATTERN), *other = any_handle(PATTERN);
   int32_t code;
-  switch (below(11)) {
+  switch (below(12)) {
     case 0: code = below(1000) == 0 ? regress_tables_unicode(tables) : regress_tables_small(tables); break;
     case 1: code = regress_share(other, pattern); break;
     case 2: code = regress_share(tables, any_handle(TABLES)); break;
@@ -98,6 +98,7 @@ static void make(void) {
     case 6: code = regress_compile_within(source, strlen(source), letters, below(64), tables, pattern, &error); break;
     case 7: code = regress_compile_whole_within(source, strlen(source), letters, below(64), tables, pattern, &error); break;
     case 8: code = regress_compile_units_within(unit_texts[below(3)], 4, letters, below(16), tables, pattern, &error); break;
+    case 9: code = regress_search_set_max_steps(any_handle(SEARCH), below(2) == 0 ? SIZE_MAX : below(64)); break;
     default: code = regress_search_new(pattern, any_handle(SEARCH));
   }
   CHECK(code <= 0 && code >= REGRESS_PAST_LIMIT && error.place <= 24);
@@ -115,7 +116,7 @@ static void ask(void) {
     case 2: code = regress_replace(pattern, text, strlen(text), "<$&$1>", 6, buffer, room, &written); break;
     case 3: code = regress_replace_all(pattern, text, strlen(text), "$`$'", 4, buffer, room, &written); break;
     case 4: code = regress_escape(text, strlen(text), buffer, room, &written); break;
-    case 5: code = regress_error_text(-(int32_t)below(20), buffer, room, &written); break;
+    case 5: code = regress_error_text(-(int32_t)below(21), buffer, room, &written); break;
     case 6: code = regress_group_count(pattern); break;
     default: code = regress_pattern_text(pattern, buffer, room, &written);
   }

@@ -1,10 +1,16 @@
 """What is refused, and how it is told."""
 
+import itertools
 import pickle
 import re
 import unittest
 
 import regress
+
+
+def text_of_letters(pos):
+    """A match of ten characters behind as many others as `pos` says."""
+    return "-" * pos + "ababababac"
 
 
 class Refused(unittest.TestCase):
@@ -48,6 +54,58 @@ class Refused(unittest.TestCase):
                 regress.compile("a", limit=limit)
         with self.assertRaises(ValueError):
             regress.compile(regress.compile("a"), limit=9)
+
+    def test_too_many_steps(self):
+        text, far = "bc abababababababababc", "é\U0001F600"
+        for string in (text, text + far, text + far + "\ud83d"):
+            with self.subTest(string=string):
+                self.tried_within(string)
+
+    def tried_within(self, string):
+        source = "(?:(a)|b)*c"
+        free = regress.compile(source)
+        for steps in range(200):
+            bounded = regress.compile(source, max_steps=steps)
+            try:
+                self.assertEqual(bounded.findall(string), ["", ""])
+                break
+            except regress.TooManySteps as caught:
+                self.assertIsInstance(caught, regress.error)
+                self.assertEqual((caught.msg, caught.pattern, caught.pos, caught.code), ("too many steps", source, None, -19))
+                self.assertEqual(pickle.loads(pickle.dumps(caught)).args, caught.args)
+        self.assertIn(steps, range(10, 199))
+        short = regress.compile(source, max_steps=steps - 1)
+        self.assertEqual(short.search(string).span(), (0, 2))
+        self.assertEqual([found.span() for found in itertools.islice(short.finditer(string), 1)], [(0, 2)])
+        self.assertEqual(short.sub("", string, 1), string[2:])
+        self.assertEqual(short.split(string, 1), ["", None, string[2:]])
+        calls = [
+            lambda: short.search(string, 2), lambda: list(short.finditer(string, 2)),
+            lambda: short.findall(string), lambda: short.sub("", string), lambda: short.sub(regress.Match.group, string, 2),
+            lambda: short.subn("", string), lambda: short.split(string),
+        ]
+        for call in calls:
+            self.assertRaises(regress.TooManySteps, call)
+        self.assertEqual(bounded.sub("<$&>", string), free.sub("<$&>", string))
+        self.assertEqual(bounded.subn("$1", string), free.subn("$1", string))
+        self.assertRaises(regress.TooManySteps, regress.compile(source, max_steps=3).match, string, 3)
+        for pos in (0, 1):
+            self.assertRaises(regress.TooManySteps, regress.compile(source, max_steps=3).fullmatch, text_of_letters(pos), pos)
+            self.assertEqual(bounded.fullmatch(text_of_letters(pos), pos).end(), 10 + pos)
+
+    def test_a_number_of_steps(self):
+        bounded = regress.compile("a", max_steps=5)
+        self.assertEqual((bounded.max_steps, regress.compile("a").max_steps), (5, None))
+        self.assertEqual(repr(bounded), "regress.compile('a', '', max_steps=5)")
+        self.assertEqual(pickle.loads(pickle.dumps(bounded)), bounded)
+        self.assertNotEqual(bounded, regress.compile("a"))
+        self.assertNotEqual(hash(bounded), hash(regress.compile("a", max_steps=6)))
+        self.assertEqual(regress.compile("a", max_steps=2**70).search("ba").span(), (1, 2))
+        for steps, raised in [(-1, ValueError), (1.5, TypeError), ("9", TypeError)]:
+            with self.assertRaises(raised):
+                regress.compile("a", max_steps=steps)
+        with self.assertRaises(ValueError):
+            regress.compile(bounded, max_steps=6)
 
     def test_flags(self):
         refused = self.refusal("a", "ix")

@@ -47,6 +47,6 @@ impl RegexBuilder {
     /// # Ok::<(), regress_proved::Error>(())
     /// ```
     pub fn build(&self) -> Result<Regex, Error> {
-        Regex::within(&self.pattern, self.flags, self.limit)
+        Regex::limited(&self.pattern, self.flags, self.limit)
     }
 }

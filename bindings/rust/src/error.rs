@@ -1,4 +1,4 @@
-//! Why a pattern is not compiled.
+//! Why a pattern is not compiled, and why a search with a bound ends early.
 use crate::sys;
 use std::fmt;
 
@@ -51,3 +51,23 @@ impl fmt::Display for Error {
 }
 
 impl std::error::Error for Error {}
+
+/// Why a search with a bound ends early.
+#[derive(Clone, Copy, Debug, PartialEq, Eq, Hash)]
+pub enum SearchError {
+    /// A request of the library for memory was refused.
+    OutOfMemory,
+    /// It would take more steps than it may.
+    TooManySteps,
+}
+
+impl fmt::Display for SearchError {
+    fn fmt(&self, f: &mut fmt::Formatter<'_>) -> fmt::Result {
+        f.write_str(match self {
+            SearchError::OutOfMemory => "out of memory",
+            SearchError::TooManySteps => "too many steps",
+        })
+    }
+}
+
+impl std::error::Error for SearchError {}

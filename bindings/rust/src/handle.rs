@@ -1,5 +1,5 @@
 //! Handles of the library, which are freed when they go, and are each in one call at a time, since a call takes one by `&mut`.
-use crate::error::Error;
+use crate::error::{Error, SearchError};
 use crate::flags::Flags;
 use crate::sys::{self, Failure, RawHandle, TextRange};
 use std::ptr;
@@ -39,6 +39,9 @@ impl<'t> Text<'t> {
     }
 }
 
+/// How many matches were found, and why the search for more ended early, if it did.
+pub type Found = (usize, Option<SearchError>);
+
 /// Takes a lock. What it guards is whole at each moment, so that a panic elsewhere does no harm.
 pub fn lock<T>(mutex: &Mutex<T>) -> MutexGuard<'_, T> {
     mutex.lock().unwrap_or_else(PoisonError::into_inner)
@@ -51,6 +54,18 @@ fn expect_done(code: i32) -> usize {
         Err(_) if code == sys::OUT_OF_MEMORY => panic!("out of memory"),
         Err(_) => {
             panic!("{}", copied(|buffer, room, written| unsafe { sys::regress_raw_error_text(code, buffer, room, written) }))
+        }
+    }
+}
+
+/// Why a search ended early, if it did. Panics where it was refused for a reason that no argument of ours has.
+fn ended_early(code: i32) -> Option<SearchError> {
+    match code {
+        sys::OUT_OF_MEMORY => Some(SearchError::OutOfMemory),
+        sys::TOO_MANY_STEPS => Some(SearchError::TooManySteps),
+        _ => {
+            expect_done(code);
+            None
         }
     }
 }
@@ -148,9 +163,15 @@ impl Handle {
         search
     }
 
-    /// Finds matches by a search from `start` on, as many as `ranges` has room for, each of `width` ranges; answers how many, and
-    /// tells in `start` where the search goes on.
-    pub fn find_many(&mut self, text: Text<'_>, start: &mut usize, ranges: &mut [TextRange], width: usize) -> usize {
+    /// Bounds how many steps a search may take for each match, or takes the bound away.
+    pub fn set_max_steps(&mut self, steps: usize) {
+        // SAFETY: a handle that is borrowed for this call alone.
+        expect_done(unsafe { sys::regress_raw_search_set_max_steps(&mut self.0, steps) });
+    }
+
+    /// Finds matches by a search from `start` on, as many as `ranges` has room for, each of `width` ranges; answers how many, and why
+    /// it ended early, if it did, and tells in `start` where the search goes on.
+    pub fn find_many(&mut self, text: Text<'_>, start: &mut usize, ranges: &mut [TextRange], width: usize) -> Found {
         match text {
             Text::Utf8(text) => self.call(sys::regress_raw_find_many_valid, text.as_bytes(), start, ranges, width),
             Text::Ascii(text) => self.call(sys::regress_raw_find_many_ascii, text.as_bytes(), start, ranges, width),
@@ -166,14 +187,13 @@ impl Handle {
         start: &mut usize,
         ranges: &mut [TextRange],
         width: usize,
-    ) -> usize {
+    ) -> Found {
         let mut found = 0;
         // SAFETY: slices with their lengths, and values that are borrowed for this call alone; the text is what its kind promises.
         let code = unsafe {
             call(&mut self.0, text.as_ptr(), text.len(), start, ranges.as_mut_ptr(), ranges.len(), width, &mut found)
         };
-        expect_done(code);
-        found
+        (found, ended_early(code))
     }
 }
 

@@ -17,9 +17,13 @@
 //!
 //! A [`Regex`] may be shared by threads: it keeps a pool of searches behind a lock, which is held only while one is taken or given
 //! back. Offsets are in bytes, or in 16-bit units where the text is one of units. Where a call of the library is refused memory, the
-//! call here panics.
+//! call here panics, but for those of a [`Bounded`], which err.
+//!
+//! A service that takes patterns or texts of strangers compiles by [`RegexBuilder`], which bounds what a pattern may become, and
+//! searches by [`Regex::within`], which bounds how many steps a search may take.
 #![warn(missing_docs)]
 
+mod bounded;
 mod builder;
 mod error;
 mod flags;
@@ -31,9 +35,10 @@ mod regex;
 mod replacing;
 mod sys;
 
+pub use bounded::Bounded;
 pub use builder::RegexBuilder;
-pub use error::Error;
+pub use error::{Error, SearchError};
 pub use flags::Flags;
 pub use found::{Groups, Match, NamedGroups, Range};
-pub use matches::{AsciiMatches, Matches};
+pub use matches::{AsciiMatches, BoundedMatches, Matches};
 pub use regex::{escape, Regex};

@@ -1,4 +1,5 @@
 //! Iterators over the matches in a text.
+use crate::error::SearchError;
 use crate::found::Match;
 use crate::handle::Text;
 use crate::pool::Taken;
@@ -47,6 +48,8 @@ pub struct Matches<'r, 't> {
     /// Ranges of matches that were found and not handed out, the next one's last.
     found: Vec<TextRange>,
     asked: usize,
+    /// Why the search ended early, if it did and that was not told.
+    failed: Option<SearchError>,
 }
 
 /// The same, over ASCII.
@@ -54,18 +57,35 @@ pub type AsciiMatches<'r, 't> = Matches<'r, 't>;
 
 impl<'r, 't> Matches<'r, 't> {
     pub(crate) fn new(search: Taken<'r>, text: Text<'t>, names: &Arc<[Box<str>]>, width: usize, start: usize) -> Self {
-        Matches { search, text, names: names.clone(), width, start, found: Vec::new(), asked: 1 }
+        Matches { search, text, names: names.clone(), width, start, found: Vec::new(), asked: 1, failed: None }
     }
 
     /// Finds more matches: one at first, and then more at a time.
     fn find_more(&mut self) {
         let unset = TextRange { start: UNSET, end: UNSET };
         let mut ranges = vec![unset; self.asked * self.width];
-        let count = self.search.find_many(self.text, &mut self.start, &mut ranges, self.width);
+        let (count, failed) = self.search.find_many(self.text, &mut self.start, &mut ranges, self.width);
+        if failed.is_some() {
+            self.failed = failed;
+            self.start = UNSET;
+        }
         ranges.truncate(count * self.width);
         ranges.reverse();
         self.found = ranges;
         self.asked = (2 * self.asked).min(MATCHES).min((RANGES / self.width).max(1));
+    }
+
+    /// The next match, or why the search for it ended early; nothing behind that.
+    fn step(&mut self) -> Option<Result<Match, SearchError>> {
+        if self.found.is_empty() && self.start != UNSET {
+            self.find_more();
+        }
+        let Some(range) = self.found.pop().and_then(told) else {
+            return self.failed.take().map(Err);
+        };
+        let groups = self.found.split_off(self.found.len() + 1 - self.width);
+        let captures = groups.into_iter().rev().map(told).collect();
+        Some(Ok(Match { range, captures, names: self.names.clone() }))
     }
 }
 
@@ -78,13 +98,7 @@ impl Iterator for Matches<'_, '_> {
     type Item = Match;
 
     fn next(&mut self) -> Option<Match> {
-        if self.found.is_empty() && self.start != UNSET {
-            self.find_more();
-        }
-        let range = self.found.pop().and_then(told)?;
-        let groups = self.found.split_off(self.found.len() + 1 - self.width);
-        let captures = groups.into_iter().rev().map(told).collect();
-        Some(Match { range, captures, names: self.names.clone() })
+        self.step().map(|found| found.unwrap_or_else(|failed| panic!("{failed}")))
     }
 }
 
@@ -95,3 +109,18 @@ impl fmt::Debug for Matches<'_, '_> {
         f.debug_struct("Matches").field("text", &self.text).field("start", &self.start).finish_non_exhaustive()
     }
 }
+
+/// The matches in a text, one behind another, each found in so many steps or not at all: from [`Bounded`](crate::Bounded). After an
+/// error it has ended.
+#[derive(Debug)]
+pub struct BoundedMatches<'r, 't>(pub(crate) Matches<'r, 't>);
+
+impl Iterator for BoundedMatches<'_, '_> {
+    type Item = Result<Match, SearchError>;
+
+    fn next(&mut self) -> Option<Result<Match, SearchError>> {
+        self.0.step()
+    }
+}
+
+impl FusedIterator for BoundedMatches<'_, '_> {}

@@ -1,5 +1,6 @@
 //! The searches of a regex, behind a lock.
 use crate::handle::{lock, Handle};
+use crate::sys::NO_BOUND;
 use std::fmt;
 use std::ops::{Deref, DerefMut};
 use std::sync::Mutex;
@@ -29,14 +30,23 @@ impl Pool {
             Some(search) => search,
             None => kept.pattern.search(),
         };
-        Taken { pool: self, search: Some(search) }
+        Taken { pool: self, search: Some(search), is_bounded: false }
+    }
+
+    /// Takes a search that may take so many steps for each match.
+    pub fn take_within(&self, steps: usize) -> Taken<'_> {
+        let mut taken = self.take();
+        taken.set_max_steps(steps);
+        taken.is_bounded = true;
+        taken
     }
 }
 
-/// A search that was taken, and is given back when it goes.
+/// A search that was taken, and is given back without a bound when it goes.
 pub struct Taken<'p> {
     pool: &'p Pool,
     search: Option<Handle>,
+    is_bounded: bool,
 }
 
 impl Deref for Taken<'_> {
@@ -55,6 +65,9 @@ impl DerefMut for Taken<'_> {
 
 impl Drop for Taken<'_> {
     fn drop(&mut self) {
+        if self.is_bounded {
+            self.set_max_steps(NO_BOUND);
+        }
         lock(&self.pool.0).idle.extend(self.search.take());
     }
 }

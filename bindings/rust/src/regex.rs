@@ -1,10 +1,11 @@
 //! Compiled patterns.
+use crate::bounded::Bounded;
 use crate::error::Error;
 use crate::flags::Flags;
 use crate::found::Match;
 use crate::handle::{escaped, Handle, Text};
 use crate::matches::{AsciiMatches, Matches};
-use crate::pool::Pool;
+use crate::pool::{Pool, Taken};
 use crate::replacing::{expand, replaced};
 use crate::sys;
 use std::str::FromStr;
@@ -51,7 +52,7 @@ impl Regex {
     where
         F: Into<Flags>,
     {
-        Regex::within(pattern, flags.into(), sys::DEFAULT_LIMIT)
+        Regex::limited(pattern, flags.into(), sys::DEFAULT_LIMIT)
     }
 
     /// Compiles a pattern that is given in code points, among which may be halves of pairs.
@@ -63,7 +64,7 @@ impl Regex {
         let flags = flags.into();
         if let Some(text) = pattern.clone().map(char::from_u32).collect::<Option<String>>() {
             let place_in = |place| text.char_indices().take_while(|(at, _)| *at < place).count();
-            return Regex::within(&text, flags, sys::DEFAULT_LIMIT).map_err(|refused| refused.placed(place_in));
+            return Regex::limited(&text, flags, sys::DEFAULT_LIMIT).map_err(|refused| refused.placed(place_in));
         }
         let units = units_of(pattern, flags)?;
         let place_in = |place| char::decode_utf16(units.iter().copied().take(place)).count();
@@ -71,7 +72,7 @@ impl Regex {
     }
 
     /// Compiles a pattern of which no program may have more instructions than the limit.
-    pub(crate) fn within(pattern: &str, flags: Flags, limit: usize) -> Result<Regex, Error> {
+    pub(crate) fn limited(pattern: &str, flags: Flags, limit: usize) -> Result<Regex, Error> {
         Handle::of_text(pattern, flags, limit).map(Regex::of)
     }
 
@@ -82,7 +83,32 @@ impl Regex {
     }
 
     fn matches<'r, 't>(&'r self, text: Text<'t>, start: usize) -> Matches<'r, 't> {
-        Matches::new(self.pool.take(), text, &self.names, self.names.len() + 1, start)
+        self.matches_by(self.pool.take(), text, start)
+    }
+
+    fn matches_by<'r, 't>(&self, search: Taken<'r>, text: Text<'t>, start: usize) -> Matches<'r, 't> {
+        Matches::new(search, text, &self.names, self.names.len() + 1, start)
+    }
+
+    /// The matches by a search that may take so many steps for each.
+    pub(crate) fn matches_within<'r, 't>(&'r self, steps: usize, text: Text<'t>, start: usize) -> Matches<'r, 't> {
+        self.matches_by(self.pool.take_within(steps), text, start)
+    }
+
+    /// The same pattern for searches that may take so many steps for each match, and err where they would take more. A service sets
+    /// them for patterns and texts of strangers, since a short pattern may take very long in a short text.
+    ///
+    /// ```
+    /// use regress_proved::{Regex, SearchError};
+    ///
+    /// let nested = Regex::new(r"^(\w|\w\w)*!$").unwrap();
+    /// let text = "a".repeat(40) + "?!";
+    /// assert_eq!(nested.within(100).find(&text).unwrap_err(), SearchError::TooManySteps);
+    /// assert!(nested.within(1_000_000).is_match("aaa!")?);
+    /// # Ok::<(), SearchError>(())
+    /// ```
+    pub fn within(&self, steps: usize) -> Bounded<'_> {
+        Bounded::new(self, steps)
     }
 
     /// The first match in a text.
@@ -139,8 +165,7 @@ impl Regex {
     ///
     /// Where `start` lies between two such units.
     pub fn find_from_utf16<'r, 't>(&'r self, text: &'t [u16], start: usize) -> Matches<'r, 't> {
-        let is_inside = start > 0 && start < text.len() && is_high(text[start - 1]) && is_low(text[start]);
-        assert!(!is_inside, "the start lies inside of a character");
+        check_unit_start(text, start);
         self.matches(Text::Utf16(text), start)
     }
 
@@ -199,8 +224,15 @@ impl Regex {
     }
 }
 
-fn check_start(text: &str, start: usize) {
+/// Panics where a start lies inside of a character.
+pub(crate) fn check_start(text: &str, start: usize) {
     assert!(start >= text.len() || text.is_char_boundary(start), "the start lies inside of a character");
+}
+
+/// Panics where a start lies between the two units of a character.
+pub(crate) fn check_unit_start(text: &[u16], start: usize) {
+    let is_inside = start > 0 && start < text.len() && is_high(text[start - 1]) && is_low(text[start]);
+    assert!(!is_inside, "the start lies inside of a character");
 }
 
 fn is_high(unit: u16) -> bool {

@@ -7,6 +7,10 @@ pub const UNSET: usize = usize::MAX;
 pub const OUT_OF_MEMORY: i32 = -1;
 pub const NO_ROOM: i32 = -6;
 pub const SYNTAX: i32 = -7;
+pub const TOO_MANY_STEPS: i32 = -19;
+
+/// How many steps a search may take that has no bound.
+pub const NO_BOUND: usize = usize::MAX;
 
 /// `REGRESS_DEFAULT_LIMIT`.
 pub const DEFAULT_LIMIT: usize = 1_000_000;
@@ -92,6 +96,7 @@ extern "C" {
     pub fn regress_raw_escape(text: *const u8, length: usize, buffer: *mut u8, room: usize, written: *mut usize) -> i32;
     pub fn regress_raw_error_text(code: i32, buffer: *mut u8, room: usize, written: *mut usize) -> i32;
     pub fn regress_raw_search_new(pattern: *mut RawHandle, out: *mut RawHandle) -> i32;
+    pub fn regress_raw_search_set_max_steps(search: *mut RawHandle, steps: usize) -> i32;
     pub fn regress_raw_find_many_valid(
         search: *mut RawHandle,
         text: *const u8,

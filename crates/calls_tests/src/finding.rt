@@ -1,8 +1,8 @@
 //! Matches that are found by handles.
 
 use regress_calls::{
-    DEFAULT_LIMIT, Slot, Source, Text, TextRange, compile, find, find_many, free, put_search,
-    put_small_tables,
+    CallError, DEFAULT_LIMIT, Slot, Source, Text, TextRange, compile, find, find_many, free,
+    put_search, put_small_tables, set_max_steps,
 };
 
 const UNSET: TextRange = TextRange { start: 0, end: 0 };
@@ -81,6 +81,60 @@ fn finds_many_matches_by_steps(rt: HostRuntime) {
     assert_eq!(rt; done, Ok(()));
     assert_eq!(rt; (found, start), (1, usize::MAX));
     assert_eq!(rt; ranges[0], range(5, 5));
+    assert!(rt; pattern.into_box(alloc).is_some());
+    assert!(rt; tables.into_box(alloc).is_some());
+    assert!(rt; search.into_box(alloc).is_some());
+}
+
+#[test]
+fn bounds_each_search_by_steps(rt: HostRuntime) {
+    let alloc = rt.alloc();
+    let mut tables = Slot::empty();
+    let mut pattern = Slot::empty();
+    let mut search = Slot::empty();
+    put_small_tables(alloc, &mut tables).expect(&rt, "tables");
+    let source = Source::Utf8("(?:(a)|b)*c");
+    compile(alloc, source, b"", DEFAULT_LIMIT, &mut tables, &mut pattern).expect(&rt, "a pattern");
+    assert_eq!(rt;
+        set_max_steps(alloc, &mut pattern, 8),
+        Err(CallError::WrongHandle)
+    );
+    put_search(alloc, &mut pattern, &mut search).expect(&rt, "a search");
+    let text = Text::Utf8("c ababababababc");
+    let mut ranges = [UNSET];
+    let mut start = 0;
+    let mut found = 0;
+    assert_eq!(rt; set_max_steps(alloc, &mut search, 8), Ok(()));
+    let done = find_many(
+        alloc,
+        &mut search,
+        text,
+        &mut start,
+        &mut ranges,
+        1,
+        &mut found,
+    );
+    assert_eq!(rt; done, Ok(()));
+    assert_eq!(rt; (found, start, ranges[0]), (1, 1, range(0, 1)));
+    assert_eq!(rt;
+        find(alloc, &mut search, text, 2, &mut ranges),
+        Err(CallError::TooManySteps)
+    );
+    assert_eq!(rt; ranges[0], range(0, 1));
+    let done = find_many(
+        alloc,
+        &mut search,
+        text,
+        &mut start,
+        &mut ranges,
+        1,
+        &mut found,
+    );
+    assert_eq!(rt; done, Err(CallError::TooManySteps));
+    assert_eq!(rt; (found, start), (0, 1));
+    assert_eq!(rt; set_max_steps(alloc, &mut search, usize::MAX), Ok(()));
+    assert_eq!(rt; find(alloc, &mut search, text, 1, &mut ranges), Ok(2));
+    assert_eq!(rt; ranges[0], range(2, 15));
     assert!(rt; pattern.into_box(alloc).is_some());
     assert!(rt; tables.into_box(alloc).is_some());
     assert!(rt; search.into_box(alloc).is_some());

@@ -1,9 +1,9 @@
 -- What numbers tell of the results that they stand for.
-use Rattle.std.specs.Prelude.{◌≡◌, ◌↔◌, ◌≤◌, IsTrue, ℕ, ℤ, Bool, true, false, negsuc, Result, Ok, Err, IfOk, IfErr, OnOk, OnErr, slice_get}
+use Rattle.std.specs.Prelude.{◌≡◌, ◌↔◌, ◌⊎◌, ◌≤◌, IsTrue, ℕ, ℤ, Bool, true, false, negsuc, Result, Ok, Err, IfOk, IfErr, OnOk, OnErr, slice_get}
 use lib.Signed.{mag}
 use Rattle.std.proofs.Common.{◌∙◌, ◌<◌, w32, of_z, to_z, to_z-of_z, refl, sym, ap, subst, inl, inr, arith}
 use Rattle.regress_calls.specs.declared.call_error.CallError.{CallError}
-use Rattle.regress_calls.specs.declared.call_error.CallError.TheVariants.{OutOfMemory, WrongHandle, Null, NotUtf8, BadStart, NoRoom, Syntax, TooDeep, TooManyGroups, TooManyLoops, TooLarge, UnknownFlag, RepeatedFlag, BothUnicodeFlags, NoGroup, BrokenTables, SameHandle, PastLimit}
+use Rattle.regress_calls.specs.declared.call_error.CallError.TheVariants.{OutOfMemory, WrongHandle, Null, NotUtf8, BadStart, NoRoom, Syntax, TooDeep, TooManyGroups, TooManyLoops, TooLarge, UnknownFlag, RepeatedFlag, BothUnicodeFlags, NoGroup, BrokenTables, SameHandle, PastLimit, TooManySteps}
 use Rattle.regress_calls.specs.Codes.{HoldsOfError, IfCount, IfError, code_of, done_code, errors, number_of, truth_code}
 use Rattle.regress_calls.specs.declared.compiling.Refusal.{Refusal}
 use Rattle.regress_c.specs.Checked.{IsTruthOf}
@@ -33,6 +33,7 @@ by-number NoGroup Q h = h
 by-number BrokenTables Q h = h
 by-number SameHandle Q h = h
 by-number PastLimit Q h = h
+by-number TooManySteps Q h = h
 
 -- of a count
 pub count-ok : (r : Result ℕ CallError) (n : ℤ) (P : ℕ → Type 0) → n ≡ code_of r → IfOk r P → IfCount n P
@@ -74,28 +75,16 @@ done-keeps (Err x) n P e h = subst (λ (z : ℤ). IfError z (λ _. P)) (sym e) (
 
 -- the error of memory has its own number
 memory-alone : (x : CallError) → negsuc (number_of x) ≡ negsuc 0 → x ≡ OutOfMemory
-memory-alone OutOfMemory same = refl
-memory-alone WrongHandle same = absurd cc
-memory-alone Null same = absurd cc
-memory-alone NotUtf8 same = absurd cc
-memory-alone BadStart same = absurd cc
-memory-alone NoRoom same = absurd cc
-memory-alone Syntax same = absurd cc
-memory-alone TooDeep same = absurd cc
-memory-alone TooManyGroups same = absurd cc
-memory-alone TooManyLoops same = absurd cc
-memory-alone TooLarge same = absurd cc
-memory-alone UnknownFlag same = absurd cc
-memory-alone RepeatedFlag same = absurd cc
-memory-alone BothUnicodeFlags same = absurd cc
-memory-alone NoGroup same = absurd cc
-memory-alone BrokenTables same = absurd cc
-memory-alone SameHandle same = absurd cc
-memory-alone PastLimit same = absurd cc
+memory-alone x same = sym (subst (λ (z : ℤ). IfError z (λ y. y ≡ x)) same (by-number x (λ y. y ≡ x) refl))
 
-pub done-memory : (r : Result Unit CallError) (n : ℤ) → n ≡ done_code r → n ≡ negsuc 0 → r ≡ Err OutOfMemory
-done-memory (Ok u) n e h = absurd cc
-done-memory (Err x) n e h = ap Err (memory-alone x (sym e ∙ h))
+-- and so has that of too many steps
+steps-alone : (x : CallError) → negsuc (number_of x) ≡ negsuc 18 → x ≡ TooManySteps
+steps-alone x same = sym (subst (λ (z : ℤ). IfError z (λ y. y ≡ x)) same (by-number x (λ y. y ≡ x) refl))
+
+-- a search for many matches ended early
+pub done-early : (r : Result Unit CallError) (n : ℤ) → n ≡ done_code r → (n ≡ negsuc 0) ⊎ (n ≡ negsuc 18) → (r ≡ Err OutOfMemory) ⊎ (r ≡ Err TooManySteps)
+done-early (Ok u) n e early = elim early [ inl memory ↦ absurd cc | inr steps ↦ absurd cc ]
+done-early (Err x) n e early = elim early [ inl memory ↦ inl (ap Err (memory-alone x (sym e ∙ memory))) | inr steps ↦ inr (ap Err (steps-alone x (sym e ∙ steps))) ]
 
 -- of what is refused at once
 pub refused-ok : (x : CallError) (n : ℤ) (P : ℕ → Type 0) → n ≡ negsuc (number_of x) → IfCount n P

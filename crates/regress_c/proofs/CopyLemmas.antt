@@ -2,7 +2,7 @@
 use Rattle.std.specs.Prelude.{◌≡◌, ℕ, ℤ, negsuc, List, Result, Ok, Err}
 use Rattle.std.proofs.Common.{refl, sym, subst}
 use Rattle.regress_calls.specs.declared.call_error.CallError.{CallError}
-use Rattle.regress_calls.specs.declared.call_error.CallError.TheVariants.{OutOfMemory, WrongHandle, Null, NotUtf8, BadStart, NoRoom, Syntax, TooDeep, TooManyGroups, TooManyLoops, TooLarge, UnknownFlag, RepeatedFlag, BothUnicodeFlags, NoGroup, BrokenTables, SameHandle, PastLimit}
+use Rattle.regress_calls.specs.declared.call_error.CallError.TheVariants.{OutOfMemory, WrongHandle, Null, NotUtf8, BadStart, NoRoom, Syntax, TooDeep, TooManyGroups, TooManyLoops, TooLarge, UnknownFlag, RepeatedFlag, BothUnicodeFlags, NoGroup, BrokenTables, SameHandle, PastLimit, TooManySteps}
 use Rattle.regress_calls.specs.Buffers.{IsCopied, IsCopiedIfMade}
 use Rattle.regress_calls.specs.Codes.{done_code, number_of}
 use Rattle.regress_c.specs.Copied.{IsCopiedBy, IsCopiedOrNot}
@@ -34,6 +34,7 @@ copied-by (Err x) n text old new written e h =
     or-not BrokenTables h = h
     or-not SameHandle h = h
     or-not PastLimit h = h
+    or-not TooManySteps h = h
 
 -- where a call is refused at once, the buffer is as it was
 pub not-copied : (n : ℤ) (text old : List ℕ) (written : ℕ) → n ≡ negsuc (number_of NotUtf8) → IsCopiedBy text old old written n

@@ -1,11 +1,13 @@
 //! Exports that find the first match from a start on.
-ghost use Rattle.std.specs.Prelude.{◌≡◌, ℕ, chars, length, option_map, slice_get};
+ghost use Rattle.std.specs.Prelude.{◌≡◌, ℕ, Option, chars, length, option_map, slice_get};
 ghost use Rattle.std.specs.Str.{IsAscii, IsUtf8};
 ghost use Rattle.regress_meaning.specs.Flags.{Options};
 ghost use Rattle.regress_meaning.specs.Matches.{match_list};
 ghost use Rattle.regress_meaning.specs.Offsets.{Begins, characters, of_ucs2, of_utf8, of_utf16, told};
 ghost use Rattle.regress_meaning.specs.Pattern.{Pattern};
 ghost use Rattle.regress_meaning.specs.Table.{Table};
+ghost use Rattle.regress_engine_input.specs.Views.{utf8, utf16, ucs2};
+ghost use Rattle.regress_programs.specs.declared.slots.Anchored.TheVariants.{No};
 ghost use Rattle.regress.specs.declared.api.Regex.{Regex as RegexValue};
 ghost use Rattle.regress.specs.Standing.{StandsFor, StandsInUnits, names_of_regex};
 ghost use Rattle.regress_calls.specs.Codes.{IfCount, IfError};
@@ -28,11 +30,12 @@ pub extern "C" fn regress_raw_find(
     start: usize,
     ranges: &mut [TextRange],
 ) -> i32
-    ensures found { (r : RegexValue) → content search.old.held ≡ OfSearch r → (t : Table) → (o : Options) → (p : Pattern) → StandsFor r t o p →
+    ensures found { (r : RegexValue) → (bound : Option ℕ) → content search.old.held ≡ OfSearch r bound →
+        (t : Table) → (o : Options) → (p : Pattern) → StandsFor r t o p →
         (place : ℕ) → Begins (of_utf8 text.now) start place →
         IfCount result (λ count. IsAnswerTo (length (names_of_regex r)) (option_map (told (of_utf8 text.now)) (slice_get (match_list t o p (chars text.now) place) 0)) ranges.old count ranges.new) }
     ensures kept { content search.new.held ≡ content search.old.held }
-    ensures refused { IfError result (MayRefuseChecked (content search.old.held) text.now start) }
+    ensures refused { IfError result (MayRefuseChecked (content search.old.held) No text.now start) }
     ensures untouched { IfError result (λ _. ranges.new ≡ ranges.old) }
 {
     let Ok(text) = utf8(text) else {
@@ -51,11 +54,12 @@ pub extern "C" fn regress_raw_find_valid(
     ranges: &mut [TextRange],
 ) -> i32
     requires { IsUtf8 text.now }
-    ensures found { (r : RegexValue) → content search.old.held ≡ OfSearch r → (t : Table) → (o : Options) → (p : Pattern) → StandsFor r t o p →
+    ensures found { (r : RegexValue) → (bound : Option ℕ) → content search.old.held ≡ OfSearch r bound →
+        (t : Table) → (o : Options) → (p : Pattern) → StandsFor r t o p →
         (place : ℕ) → Begins (of_utf8 text.now) start place →
         IfCount result (λ count. IsAnswerTo (length (names_of_regex r)) (option_map (told (of_utf8 text.now)) (slice_get (match_list t o p (chars text.now) place) 0)) ranges.old count ranges.new) }
     ensures kept { content search.new.held ≡ content search.old.held }
-    ensures refused { IfError result (MayRefuseSearch (content search.old.held) (of_utf8 text.now) start) }
+    ensures refused { IfError result (MayRefuseSearch (content search.old.held) No utf8 text.now start) }
     ensures untouched { IfError result (λ _. ranges.new ≡ ranges.old) }
 {
     count_code(find(alloc, search, Text::Utf8(valid(text)), start, ranges))
@@ -71,11 +75,12 @@ pub extern "C" fn regress_raw_find_ascii(
     ranges: &mut [TextRange],
 ) -> i32
     requires { IsAscii text.now }
-    ensures found { (r : RegexValue) → content search.old.held ≡ OfSearch r → (t : Table) → (o : Options) → (p : Pattern) → StandsFor r t o p →
+    ensures found { (r : RegexValue) → (bound : Option ℕ) → content search.old.held ≡ OfSearch r bound →
+        (t : Table) → (o : Options) → (p : Pattern) → StandsFor r t o p →
         (place : ℕ) → Begins (of_utf8 text.now) start place →
         IfCount result (λ count. IsAnswerTo (length (names_of_regex r)) (option_map (told (of_utf8 text.now)) (slice_get (match_list t o p (chars text.now) place) 0)) ranges.old count ranges.new) }
     ensures kept { content search.new.held ≡ content search.old.held }
-    ensures refused { IfError result (MayRefuseSearch (content search.old.held) (of_utf8 text.now) start) }
+    ensures refused { IfError result (MayRefuseSearch (content search.old.held) No utf8 text.now start) }
     ensures untouched { IfError result (λ _. ranges.new ≡ ranges.old) }
 {
     count_code(find(alloc, search, Text::Ascii(ascii(text)), start, ranges))
@@ -90,11 +95,12 @@ pub extern "C" fn regress_raw_find_utf16(
     start: usize,
     ranges: &mut [TextRange],
 ) -> i32
-    ensures found { (r : RegexValue) → content search.old.held ≡ OfSearch r → (t : Table) → (o : Options) → (p : Pattern) → StandsInUnits r t o p →
+    ensures found { (r : RegexValue) → (bound : Option ℕ) → content search.old.held ≡ OfSearch r bound →
+        (t : Table) → (o : Options) → (p : Pattern) → StandsInUnits r t o p →
         (place : ℕ) → Begins (of_utf16 text.now) start place →
         IfCount result (λ count. IsAnswerTo (length (names_of_regex r)) (option_map (told (of_utf16 text.now)) (slice_get (match_list t o p (characters text.now) place) 0)) ranges.old count ranges.new) }
     ensures kept { content search.new.held ≡ content search.old.held }
-    ensures refused { IfError result (MayRefuseSearch (content search.old.held) (of_utf16 text.now) start) }
+    ensures refused { IfError result (MayRefuseSearch (content search.old.held) No utf16 text.now start) }
     ensures untouched { IfError result (λ _. ranges.new ≡ ranges.old) }
 {
     count_code(find(alloc, search, Text::Utf16(text), start, ranges))
@@ -109,11 +115,12 @@ pub extern "C" fn regress_raw_find_ucs2(
     start: usize,
     ranges: &mut [TextRange],
 ) -> i32
-    ensures found { (r : RegexValue) → content search.old.held ≡ OfSearch r → (t : Table) → (o : Options) → (p : Pattern) → StandsInUnits r t o p →
+    ensures found { (r : RegexValue) → (bound : Option ℕ) → content search.old.held ≡ OfSearch r bound →
+        (t : Table) → (o : Options) → (p : Pattern) → StandsInUnits r t o p →
         (place : ℕ) → Begins (of_ucs2 text.now) start place →
         IfCount result (λ count. IsAnswerTo (length (names_of_regex r)) (option_map (told (of_ucs2 text.now)) (slice_get (match_list t o p text.now place) 0)) ranges.old count ranges.new) }
     ensures kept { content search.new.held ≡ content search.old.held }
-    ensures refused { IfError result (MayRefuseSearch (content search.old.held) (of_ucs2 text.now) start) }
+    ensures refused { IfError result (MayRefuseSearch (content search.old.held) No ucs2 text.now start) }
     ensures untouched { IfError result (λ _. ranges.new ≡ ranges.old) }
 {
     count_code(find(alloc, search, Text::Ucs2(text), start, ranges))

@@ -1,11 +1,12 @@
 //! Exports that find matches one after another.
-ghost use Rattle.std.specs.Prelude.{◌≡◌, ℕ, chars, length, negsuc};
+ghost use Rattle.std.specs.Prelude.{◌≡◌, ◌⊎◌, ℕ, Option, chars, length, negsuc};
 ghost use Rattle.std.specs.Str.{IsAscii, IsUtf8};
 ghost use Rattle.regress_meaning.specs.Flags.{Options};
 ghost use Rattle.regress_meaning.specs.Matches.{match_list};
 ghost use Rattle.regress_meaning.specs.Offsets.{Begins, characters, of_ucs2, of_utf8, of_utf16};
 ghost use Rattle.regress_meaning.specs.Pattern.{Pattern};
 ghost use Rattle.regress_meaning.specs.Table.{Table};
+ghost use Rattle.regress_engine_input.specs.Views.{utf8, utf16, ucs2};
 ghost use Rattle.regress.specs.declared.api.Regex.{Regex as RegexValue};
 ghost use Rattle.regress.specs.Standing.{StandsFor, StandsInUnits, names_of_regex};
 ghost use Rattle.regress_calls.specs.Codes.{IfCount, IfError};
@@ -31,14 +32,16 @@ pub extern "C" fn regress_raw_find_many(
     width: usize,
     found: &mut usize,
 ) -> i32
-    ensures found { (r : RegexValue) → content search.old.held ≡ OfSearch r → (t : Table) → (o : Options) → (p : Pattern) → StandsFor r t o p →
+    ensures found { (r : RegexValue) → (bound : Option ℕ) → content search.old.held ≡ OfSearch r bound →
+        (t : Table) → (o : Options) → (p : Pattern) → StandsFor r t o p →
         (place : ℕ) → Begins (of_utf8 text.now) start.old place →
         IfCount result (λ _. FoundAsManyAsFit (of_utf8 text.now) (match_list t o p (chars text.now)) (length (names_of_regex r)) width place found.new start.new ranges.new) }
-    ensures before { (r : RegexValue) → content search.old.held ≡ OfSearch r → (t : Table) → (o : Options) → (p : Pattern) → StandsFor r t o p →
+    ensures before { (r : RegexValue) → (bound : Option ℕ) → content search.old.held ≡ OfSearch r bound →
+        (t : Table) → (o : Options) → (p : Pattern) → StandsFor r t o p →
         (place : ℕ) → Begins (of_utf8 text.now) start.old place →
-        result ≡ negsuc 0 → FoundMany (of_utf8 text.now) (match_list t o p (chars text.now)) (length (names_of_regex r)) width place found.new start.new ranges.new }
+        (result ≡ negsuc 0) ⊎ (result ≡ negsuc 18) → FoundMany (of_utf8 text.now) (match_list t o p (chars text.now)) (length (names_of_regex r)) width place found.new start.new ranges.new }
     ensures kept { content search.new.held ≡ content search.old.held }
-    ensures refused { IfError result (MayRefuseCheckedMany (content search.old.held) text.now start.old (length ranges.old) width) }
+    ensures refused { IfError result (MayRefuseCheckedMany (content search.old.held) text.now start.old start.new (length ranges.old) width) }
 {
     let Ok(text) = utf8(text) else {
         return CallError::NotUtf8.code();
@@ -59,14 +62,16 @@ pub extern "C" fn regress_raw_find_many_valid(
     found: &mut usize,
 ) -> i32
     requires { IsUtf8 text.now }
-    ensures found { (r : RegexValue) → content search.old.held ≡ OfSearch r → (t : Table) → (o : Options) → (p : Pattern) → StandsFor r t o p →
+    ensures found { (r : RegexValue) → (bound : Option ℕ) → content search.old.held ≡ OfSearch r bound →
+        (t : Table) → (o : Options) → (p : Pattern) → StandsFor r t o p →
         (place : ℕ) → Begins (of_utf8 text.now) start.old place →
         IfCount result (λ _. FoundAsManyAsFit (of_utf8 text.now) (match_list t o p (chars text.now)) (length (names_of_regex r)) width place found.new start.new ranges.new) }
-    ensures before { (r : RegexValue) → content search.old.held ≡ OfSearch r → (t : Table) → (o : Options) → (p : Pattern) → StandsFor r t o p →
+    ensures before { (r : RegexValue) → (bound : Option ℕ) → content search.old.held ≡ OfSearch r bound →
+        (t : Table) → (o : Options) → (p : Pattern) → StandsFor r t o p →
         (place : ℕ) → Begins (of_utf8 text.now) start.old place →
-        result ≡ negsuc 0 → FoundMany (of_utf8 text.now) (match_list t o p (chars text.now)) (length (names_of_regex r)) width place found.new start.new ranges.new }
+        (result ≡ negsuc 0) ⊎ (result ≡ negsuc 18) → FoundMany (of_utf8 text.now) (match_list t o p (chars text.now)) (length (names_of_regex r)) width place found.new start.new ranges.new }
     ensures kept { content search.new.held ≡ content search.old.held }
-    ensures refused { IfError result (MayRefuseMany (content search.old.held) (of_utf8 text.now) start.old (length ranges.old) width) }
+    ensures refused { IfError result (MayRefuseMany (content search.old.held) utf8 text.now start.old start.new (length ranges.old) width) }
 {
     done_code(find_many(
         alloc,
@@ -92,14 +97,16 @@ pub extern "C" fn regress_raw_find_many_ascii(
     found: &mut usize,
 ) -> i32
     requires { IsAscii text.now }
-    ensures found { (r : RegexValue) → content search.old.held ≡ OfSearch r → (t : Table) → (o : Options) → (p : Pattern) → StandsFor r t o p →
+    ensures found { (r : RegexValue) → (bound : Option ℕ) → content search.old.held ≡ OfSearch r bound →
+        (t : Table) → (o : Options) → (p : Pattern) → StandsFor r t o p →
         (place : ℕ) → Begins (of_utf8 text.now) start.old place →
         IfCount result (λ _. FoundAsManyAsFit (of_utf8 text.now) (match_list t o p (chars text.now)) (length (names_of_regex r)) width place found.new start.new ranges.new) }
-    ensures before { (r : RegexValue) → content search.old.held ≡ OfSearch r → (t : Table) → (o : Options) → (p : Pattern) → StandsFor r t o p →
+    ensures before { (r : RegexValue) → (bound : Option ℕ) → content search.old.held ≡ OfSearch r bound →
+        (t : Table) → (o : Options) → (p : Pattern) → StandsFor r t o p →
         (place : ℕ) → Begins (of_utf8 text.now) start.old place →
-        result ≡ negsuc 0 → FoundMany (of_utf8 text.now) (match_list t o p (chars text.now)) (length (names_of_regex r)) width place found.new start.new ranges.new }
+        (result ≡ negsuc 0) ⊎ (result ≡ negsuc 18) → FoundMany (of_utf8 text.now) (match_list t o p (chars text.now)) (length (names_of_regex r)) width place found.new start.new ranges.new }
     ensures kept { content search.new.held ≡ content search.old.held }
-    ensures refused { IfError result (MayRefuseMany (content search.old.held) (of_utf8 text.now) start.old (length ranges.old) width) }
+    ensures refused { IfError result (MayRefuseMany (content search.old.held) utf8 text.now start.old start.new (length ranges.old) width) }
 {
     done_code(find_many(
         alloc,
@@ -124,14 +131,16 @@ pub extern "C" fn regress_raw_find_many_utf16(
     width: usize,
     found: &mut usize,
 ) -> i32
-    ensures found { (r : RegexValue) → content search.old.held ≡ OfSearch r → (t : Table) → (o : Options) → (p : Pattern) → StandsInUnits r t o p →
+    ensures found { (r : RegexValue) → (bound : Option ℕ) → content search.old.held ≡ OfSearch r bound →
+        (t : Table) → (o : Options) → (p : Pattern) → StandsInUnits r t o p →
         (place : ℕ) → Begins (of_utf16 text.now) start.old place →
         IfCount result (λ _. FoundAsManyAsFit (of_utf16 text.now) (match_list t o p (characters text.now)) (length (names_of_regex r)) width place found.new start.new ranges.new) }
-    ensures before { (r : RegexValue) → content search.old.held ≡ OfSearch r → (t : Table) → (o : Options) → (p : Pattern) → StandsInUnits r t o p →
+    ensures before { (r : RegexValue) → (bound : Option ℕ) → content search.old.held ≡ OfSearch r bound →
+        (t : Table) → (o : Options) → (p : Pattern) → StandsInUnits r t o p →
         (place : ℕ) → Begins (of_utf16 text.now) start.old place →
-        result ≡ negsuc 0 → FoundMany (of_utf16 text.now) (match_list t o p (characters text.now)) (length (names_of_regex r)) width place found.new start.new ranges.new }
+        (result ≡ negsuc 0) ⊎ (result ≡ negsuc 18) → FoundMany (of_utf16 text.now) (match_list t o p (characters text.now)) (length (names_of_regex r)) width place found.new start.new ranges.new }
     ensures kept { content search.new.held ≡ content search.old.held }
-    ensures refused { IfError result (MayRefuseMany (content search.old.held) (of_utf16 text.now) start.old (length ranges.old) width) }
+    ensures refused { IfError result (MayRefuseMany (content search.old.held) utf16 text.now start.old start.new (length ranges.old) width) }
 {
     done_code(find_many(
         alloc,
@@ -156,14 +165,16 @@ pub extern "C" fn regress_raw_find_many_ucs2(
     width: usize,
     found: &mut usize,
 ) -> i32
-    ensures found { (r : RegexValue) → content search.old.held ≡ OfSearch r → (t : Table) → (o : Options) → (p : Pattern) → StandsInUnits r t o p →
+    ensures found { (r : RegexValue) → (bound : Option ℕ) → content search.old.held ≡ OfSearch r bound →
+        (t : Table) → (o : Options) → (p : Pattern) → StandsInUnits r t o p →
         (place : ℕ) → Begins (of_ucs2 text.now) start.old place →
         IfCount result (λ _. FoundAsManyAsFit (of_ucs2 text.now) (match_list t o p text.now) (length (names_of_regex r)) width place found.new start.new ranges.new) }
-    ensures before { (r : RegexValue) → content search.old.held ≡ OfSearch r → (t : Table) → (o : Options) → (p : Pattern) → StandsInUnits r t o p →
+    ensures before { (r : RegexValue) → (bound : Option ℕ) → content search.old.held ≡ OfSearch r bound →
+        (t : Table) → (o : Options) → (p : Pattern) → StandsInUnits r t o p →
         (place : ℕ) → Begins (of_ucs2 text.now) start.old place →
-        result ≡ negsuc 0 → FoundMany (of_ucs2 text.now) (match_list t o p text.now) (length (names_of_regex r)) width place found.new start.new ranges.new }
+        (result ≡ negsuc 0) ⊎ (result ≡ negsuc 18) → FoundMany (of_ucs2 text.now) (match_list t o p text.now) (length (names_of_regex r)) width place found.new start.new ranges.new }
     ensures kept { content search.new.held ≡ content search.old.held }
-    ensures refused { IfError result (MayRefuseMany (content search.old.held) (of_ucs2 text.now) start.old (length ranges.old) width) }
+    ensures refused { IfError result (MayRefuseMany (content search.old.held) ucs2 text.now start.old start.new (length ranges.old) width) }
 {
     done_code(find_many(alloc, search, Text::Ucs2(text), start, ranges, width, found))
 }

@@ -1,11 +1,13 @@
 //! Exports that tell whether there is a match.
-ghost use Rattle.std.specs.Prelude.{◌≡◌, ◌≢◌, ℕ, [], chars};
+ghost use Rattle.std.specs.Prelude.{◌≡◌, ◌≢◌, ℕ, Option, [], chars};
 ghost use Rattle.std.specs.Str.{IsAscii, IsUtf8};
 ghost use Rattle.regress_meaning.specs.Flags.{Options};
 ghost use Rattle.regress_meaning.specs.Matches.{match_list};
 ghost use Rattle.regress_meaning.specs.Offsets.{Begins, characters, of_ucs2, of_utf8, of_utf16};
 ghost use Rattle.regress_meaning.specs.Pattern.{Pattern};
 ghost use Rattle.regress_meaning.specs.Table.{Table};
+ghost use Rattle.regress_engine_input.specs.Views.{utf8, utf16, ucs2};
+ghost use Rattle.regress_programs.specs.declared.slots.Anchored.TheVariants.{No};
 ghost use Rattle.regress.specs.declared.api.Regex.{Regex as RegexValue};
 ghost use Rattle.regress.specs.Standing.{StandsFor, StandsInUnits};
 ghost use Rattle.regress_calls.specs.Codes.{IfCount, IfError};
@@ -26,11 +28,12 @@ pub extern "C" fn regress_raw_is_match(
     text: &[u8],
     start: usize,
 ) -> i32
-    ensures found { (r : RegexValue) → content search.old.held ≡ OfSearch r → (t : Table) → (o : Options) → (p : Pattern) → StandsFor r t o p →
+    ensures found { (r : RegexValue) → (bound : Option ℕ) → content search.old.held ≡ OfSearch r bound →
+        (t : Table) → (o : Options) → (p : Pattern) → StandsFor r t o p →
         (place : ℕ) → Begins (of_utf8 text.now) start place →
         IfCount result (λ count. IsTruthOf count (match_list t o p (chars text.now) place ≢ [])) }
     ensures kept { content search.new.held ≡ content search.old.held }
-    ensures refused { IfError result (MayRefuseChecked (content search.old.held) text.now start) }
+    ensures refused { IfError result (MayRefuseChecked (content search.old.held) No text.now start) }
 {
     let Ok(text) = utf8(text) else {
         return CallError::NotUtf8.code();
@@ -47,11 +50,12 @@ pub extern "C" fn regress_raw_is_match_valid(
     start: usize,
 ) -> i32
     requires { IsUtf8 text.now }
-    ensures found { (r : RegexValue) → content search.old.held ≡ OfSearch r → (t : Table) → (o : Options) → (p : Pattern) → StandsFor r t o p →
+    ensures found { (r : RegexValue) → (bound : Option ℕ) → content search.old.held ≡ OfSearch r bound →
+        (t : Table) → (o : Options) → (p : Pattern) → StandsFor r t o p →
         (place : ℕ) → Begins (of_utf8 text.now) start place →
         IfCount result (λ count. IsTruthOf count (match_list t o p (chars text.now) place ≢ [])) }
     ensures kept { content search.new.held ≡ content search.old.held }
-    ensures refused { IfError result (MayRefuseSearch (content search.old.held) (of_utf8 text.now) start) }
+    ensures refused { IfError result (MayRefuseSearch (content search.old.held) No utf8 text.now start) }
 {
     truth_code(is_match(alloc, search, Text::Utf8(valid(text)), start))
 }
@@ -65,11 +69,12 @@ pub extern "C" fn regress_raw_is_match_ascii(
     start: usize,
 ) -> i32
     requires { IsAscii text.now }
-    ensures found { (r : RegexValue) → content search.old.held ≡ OfSearch r → (t : Table) → (o : Options) → (p : Pattern) → StandsFor r t o p →
+    ensures found { (r : RegexValue) → (bound : Option ℕ) → content search.old.held ≡ OfSearch r bound →
+        (t : Table) → (o : Options) → (p : Pattern) → StandsFor r t o p →
         (place : ℕ) → Begins (of_utf8 text.now) start place →
         IfCount result (λ count. IsTruthOf count (match_list t o p (chars text.now) place ≢ [])) }
     ensures kept { content search.new.held ≡ content search.old.held }
-    ensures refused { IfError result (MayRefuseSearch (content search.old.held) (of_utf8 text.now) start) }
+    ensures refused { IfError result (MayRefuseSearch (content search.old.held) No utf8 text.now start) }
 {
     truth_code(is_match(alloc, search, Text::Ascii(ascii(text)), start))
 }
@@ -82,11 +87,12 @@ pub extern "C" fn regress_raw_is_match_utf16(
     text: &[u16],
     start: usize,
 ) -> i32
-    ensures found { (r : RegexValue) → content search.old.held ≡ OfSearch r → (t : Table) → (o : Options) → (p : Pattern) → StandsInUnits r t o p →
+    ensures found { (r : RegexValue) → (bound : Option ℕ) → content search.old.held ≡ OfSearch r bound →
+        (t : Table) → (o : Options) → (p : Pattern) → StandsInUnits r t o p →
         (place : ℕ) → Begins (of_utf16 text.now) start place →
         IfCount result (λ count. IsTruthOf count (match_list t o p (characters text.now) place ≢ [])) }
     ensures kept { content search.new.held ≡ content search.old.held }
-    ensures refused { IfError result (MayRefuseSearch (content search.old.held) (of_utf16 text.now) start) }
+    ensures refused { IfError result (MayRefuseSearch (content search.old.held) No utf16 text.now start) }
 {
     truth_code(is_match(alloc, search, Text::Utf16(text), start))
 }
@@ -99,11 +105,12 @@ pub extern "C" fn regress_raw_is_match_ucs2(
     text: &[u16],
     start: usize,
 ) -> i32
-    ensures found { (r : RegexValue) → content search.old.held ≡ OfSearch r → (t : Table) → (o : Options) → (p : Pattern) → StandsInUnits r t o p →
+    ensures found { (r : RegexValue) → (bound : Option ℕ) → content search.old.held ≡ OfSearch r bound →
+        (t : Table) → (o : Options) → (p : Pattern) → StandsInUnits r t o p →
         (place : ℕ) → Begins (of_ucs2 text.now) start place →
         IfCount result (λ count. IsTruthOf count (match_list t o p text.now place ≢ [])) }
     ensures kept { content search.new.held ≡ content search.old.held }
-    ensures refused { IfError result (MayRefuseSearch (content search.old.held) (of_ucs2 text.now) start) }
+    ensures refused { IfError result (MayRefuseSearch (content search.old.held) No ucs2 text.now start) }
 {
     truth_code(is_match(alloc, search, Text::Ucs2(text), start))
 }

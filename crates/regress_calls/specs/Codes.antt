@@ -6,10 +6,12 @@ use Rattle.regress_front_core.specs.declared.script_flags.FlagError.{FlagError}
 use Rattle.regress_front_core.specs.declared.script_flags.FlagError.TheVariants as flag
 use Rattle.regress_front_tables.specs.declared.tables.law.TableError.{TableError}
 use Rattle.regress_front_tables.specs.declared.tables.law.TableError.TheVariants as tables
+use Rattle.regress_engine_exec.specs.declared.error.SearchError.{SearchError}
+use Rattle.regress_engine_exec.specs.declared.error.SearchError.TheVariants as search
 use Rattle.regress_errors.specs.declared.errors.CompileError.{CompileError}
 use Rattle.regress_errors.specs.declared.errors.CompileError.TheVariants as compiling
 use Rattle.regress_calls.specs.declared.call_error.CallError.{CallError}
-use Rattle.regress_calls.specs.declared.call_error.CallError.TheVariants.{OutOfMemory, WrongHandle, Null, NotUtf8, BadStart, NoRoom, Syntax, TooDeep, TooManyGroups, TooManyLoops, TooLarge, UnknownFlag, RepeatedFlag, BothUnicodeFlags, NoGroup, BrokenTables, SameHandle, PastLimit}
+use Rattle.regress_calls.specs.declared.call_error.CallError.TheVariants.{OutOfMemory, WrongHandle, Null, NotUtf8, BadStart, NoRoom, Syntax, TooDeep, TooManyGroups, TooManyLoops, TooLarge, UnknownFlag, RepeatedFlag, BothUnicodeFlags, NoGroup, BrokenTables, SameHandle, PastLimit, TooManySteps}
 
 -- the number of an error: its code is one less than the number below zero
 abbrev pub number_of : CallError → ℕ
@@ -31,6 +33,7 @@ number_of NoGroup = 14
 number_of BrokenTables = 15
 number_of SameHandle = 16
 number_of PastLimit = 17
+number_of TooManySteps = 18
 
 -- what an error of the library is called
 abbrev pub of_error : Error → CallError
@@ -59,6 +62,11 @@ of_compile_error (compiling.Flags e) = of_flag_error e
 of_compile_error (compiling.Table e) = of_table_error e
 of_compile_error compiling.PastLimit = PastLimit
 
+-- what an error of a search with a bound is called
+abbrev pub of_search_error : SearchError → CallError
+of_search_error search.OutOfMemory = OutOfMemory
+of_search_error search.TooManySteps = TooManySteps
+
 -- what a call answers as a number: a count, or the code of an error
 abbrev pub code_of : Result ℕ CallError → ℤ
 code_of (Ok n) = pos n
@@ -84,7 +92,7 @@ IfCount (negsuc k) P = Unit {0}
 abbrev pub errors : List CallError
 errors =
     OutOfMemory ∷ WrongHandle ∷ Null ∷ NotUtf8 ∷ BadStart ∷ NoRoom ∷ Syntax ∷ TooDeep ∷ TooManyGroups ∷ TooManyLoops ∷ TooLarge
-    ∷ UnknownFlag ∷ RepeatedFlag ∷ BothUnicodeFlags ∷ NoGroup ∷ BrokenTables ∷ SameHandle ∷ PastLimit ∷ []
+    ∷ UnknownFlag ∷ RepeatedFlag ∷ BothUnicodeFlags ∷ NoGroup ∷ BrokenTables ∷ SameHandle ∷ PastLimit ∷ TooManySteps ∷ []
 
 -- there is an error, and the fact holds of it
 abbrev pub HoldsOfError : Option CallError → (CallError → Type 0) → Type 0

@@ -1,18 +1,22 @@
 -- Why calls may be refused.
-use Rattle.std.specs.Prelude.{◌≡◌, ◌<◌, ◌⊎◌, ℕ, length}
+use Rattle.std.specs.Prelude.{◌≡◌, ◌<◌, ◌⊎◌, ℕ, List, length}
 use Rattle.regress_meaning.specs.Offsets.{Reading, Begins}
+use Rattle.regress_engine_input.specs.Views.{Kind, reading_of_kind}
+use Rattle.regress_programs.specs.declared.slots.Anchored.{Anchored}
+use Rattle.regress_programs.specs.declared.slots.Anchored.TheVariants.{No}
 use Rattle.regress_front_tables.specs.declared.tables.law.TableError.{TableError}
 use Rattle.regress_unicode.specs.Unicode.{IsRefusal}
 use Rattle.regress.specs.declared.api.Regex.{Regex}
 use Rattle.regress.specs.Standing.{names_of_regex}
 use Rattle.regress_calls.specs.declared.call_error.CallError.{CallError}
-use Rattle.regress_calls.specs.declared.call_error.CallError.TheVariants.{OutOfMemory, WrongHandle, BadStart, NoRoom, NoGroup, TooManyGroups}
+use Rattle.regress_calls.specs.declared.call_error.CallError.TheVariants.{OutOfMemory, WrongHandle, BadStart, NoRoom, NoGroup, TooManyGroups, TooManySteps}
 use Rattle.regress_calls.specs.Codes.{of_table_error}
 use Rattle.regress_calls.specs.Handles.{Content, OfTables, OfPattern, OfSearch}
+use Rattle.regress_calls.specs.Stopping.{IsStopped}
 
 -- the handle holds no search
 abbrev pub HoldsNoSearch : Content → Type 0
-HoldsNoSearch (OfSearch r) = ⊥
+HoldsNoSearch (OfSearch r bound) = ⊥
 HoldsNoSearch _ = Unit {0}
 
 -- the handle holds no pattern
@@ -29,17 +33,23 @@ HoldsNoTables _ = Unit {0}
 abbrev pub IsNoStart : Reading → ℕ → Type 0
 IsNoStart reading start = (place : ℕ) → Begins reading start place → ⊥
 
--- Why a search may be refused: no search is held, it may not begin there, or memory is refused.
-abbrev pub MayRefuseSearch : Content → Reading → (start : ℕ) → CallError → Type 0
-MayRefuseSearch c reading start WrongHandle = HoldsNoSearch c
-MayRefuseSearch c reading start BadStart = IsNoStart reading start
-MayRefuseSearch c reading start OutOfMemory = Unit {0}
-MayRefuseSearch c reading start _ = ⊥
+-- Why a search in a text of a kind may be refused: no search is held, it may not begin there, memory is refused, or its bound stops it.
+abbrev pub MayRefuseSearch : Content → Anchored → Kind → List ℕ → (start : ℕ) → CallError → Type 0
+MayRefuseSearch c anchored kind units start WrongHandle = HoldsNoSearch c
+MayRefuseSearch c anchored kind units start BadStart = IsNoStart (reading_of_kind kind units) start
+MayRefuseSearch c anchored kind units start OutOfMemory = Unit {0}
+MayRefuseSearch c anchored kind units start TooManySteps = IsStopped c anchored kind units start
+MayRefuseSearch c anchored kind units start _ = ⊥
 
--- The same of a search for many matches: a match takes no range, or more than there are.
-abbrev pub MayRefuseMany : Content → Reading → (start room width : ℕ) → CallError → Type 0
-MayRefuseMany c reading start room width NoRoom = (width ≡ 0) ⊎ (room < width)
-MayRefuseMany c reading start room width e = MayRefuseSearch c reading start e
+-- The same of a search for many matches: a match takes no range, or more than there are; and its bound stops it where it then goes on.
+abbrev pub MayRefuseMany : Content → Kind → List ℕ → (start next room width : ℕ) → CallError → Type 0
+MayRefuseMany c kind units start next room width NoRoom = (width ≡ 0) ⊎ (room < width)
+MayRefuseMany c kind units start next room width TooManySteps = IsStopped c No kind units next
+MayRefuseMany c kind units start next room width e = MayRefuseSearch c No kind units start e
+
+-- Why a bound is not set: no search is held.
+abbrev pub MayRefuseBound : Content → CallError → Type 0
+MayRefuseBound c e = (e ≡ WrongHandle) × HoldsNoSearch c
 
 -- Why a call on a pattern may be refused: none is held, or memory is refused.
 abbrev pub MayRefusePattern : Content → CallError → Type 0

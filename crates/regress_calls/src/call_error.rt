@@ -1,7 +1,7 @@
 //! Why a call is refused.
 ghost use Rattle.std.specs.Prelude.{◌≡◌};
 
-use regress::{CompileError, Error, FlagError, TableError};
+use regress::{CompileError, Error, FlagError, SearchError, TableError};
 use std::alloc::{AllocError, AllocFailed};
 use std::fmt;
 
@@ -44,6 +44,8 @@ pub enum CallError {
     SameHandle,
     /// A program of the pattern may have more instructions than the limit allows.
     PastLimit,
+    /// A search for a match would take more steps than it may.
+    TooManySteps,
 }
 
 impl CallError {
@@ -77,6 +79,7 @@ impl CallError {
             CallError::BrokenTables => -16,
             CallError::SameHandle => -17,
             CallError::PastLimit => -18,
+            CallError::TooManySteps => -19,
         }
     }
 
@@ -105,6 +108,7 @@ impl CallError {
             CallError::BrokenTables => "broken tables",
             CallError::SameHandle => "the same handle twice",
             CallError::PastLimit => "pattern costs more than its limit",
+            CallError::TooManySteps => "too many steps",
         }
     }
 }
@@ -134,6 +138,7 @@ pub fn text_of_code(code: i32) -> &'static str {
         -16 => CallError::BrokenTables.text(),
         -17 => CallError::SameHandle.text(),
         -18 => CallError::PastLimit.text(),
+        -19 => CallError::TooManySteps.text(),
         _ => "no error",
     }
 }
@@ -199,6 +204,19 @@ impl From<CompileError> for CallError {
             CompileError::Flags(refused) => CallError::from(refused),
             CompileError::Table(refused) => CallError::from(refused),
             CompileError::PastLimit => CallError::PastLimit,
+        }
+    }
+}
+
+impl From<SearchError> for CallError {
+    ghost use Rattle.regress_calls.specs.Codes.{of_search_error};
+
+    ghost from_gives = { λ refused e. e ≡ of_search_error refused };
+
+    fn from(refused: SearchError) -> CallError {
+        match refused {
+            SearchError::OutOfMemory => CallError::OutOfMemory,
+            SearchError::TooManySteps => CallError::TooManySteps,
         }
     }
 }

@@ -21,7 +21,7 @@ pub use asking::{
 };
 pub use buffer::copy_text;
 pub use call_error::{CallError, text_of_code};
-pub use calls::{find, find_many, free, is_match, match_at};
+pub use calls::{find, find_many, free, is_match, match_at, set_max_steps};
 pub use compiling::{Refusal, Source, compile};
 pub use held::Held;
 pub use making::{put_search, put_small_tables, put_unicode_tables, share};

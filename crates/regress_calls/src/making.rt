@@ -1,5 +1,5 @@
 //! What handles are filled with.
-ghost use Rattle.std.specs.Prelude.{◌≡◌, IfOk, IfErr, OnOk, OnErr};
+ghost use Rattle.std.specs.Prelude.{◌≡◌, IfOk, IfErr, None, OnOk, OnErr};
 ghost use Rattle.std.specs.Arc.{arc_value};
 ghost use Rattle.regress_meaning.specs.TableParts.{TableParts as Parts, small_parts, table_of};
 ghost use Rattle.regress_front_tables.specs.TableViews.{table};
@@ -72,7 +72,7 @@ pub fn share(alloc: Global, slot: &mut Slot, out: &mut Slot) -> Result<(), CallE
 
 /// A search of a pattern, as it is held.
 fn searching(alloc: Global, regex: Arc<Regex>) -> Result<Box<Held>, CallError>
-    ensures made { IfOk result (λ held. content (Some held.value) ≡ OfSearch (arc_value regex)) }
+    ensures made { IfOk result (λ held. content (Some held.value) ≡ OfSearch (arc_value regex) None) }
     ensures refused { IfErr result (MayRefuseCounted (OfPattern (arc_value regex))) }
 {
     let search = Search::new(alloc, regex)?;
@@ -83,7 +83,7 @@ fn searching(alloc: Global, regex: Arc<Regex>) -> Result<Box<Held>, CallError>
 /// Puts a search of the pattern that a handle holds into another. Errs with `WrongHandle` where it holds none, and with
 /// `OutOfMemory`; with `TooManyGroups` only where a pattern had more than 65535 groups, and no compiled one has.
 pub fn put_search(alloc: Global, pattern: &mut Slot, out: &mut Slot) -> Result<(), CallError>
-    ensures made { OnOk result ((r : RegexValue) × (content pattern.old.held ≡ OfPattern r) × (content out.new.held ≡ OfSearch r)) }
+    ensures made { OnOk result ((r : RegexValue) × (content pattern.old.held ≡ OfPattern r) × (content out.new.held ≡ OfSearch r None)) }
     ensures kept { content pattern.new.held ≡ content pattern.old.held }
     ensures refused { IfErr result (MayRefuseCounted (content pattern.old.held)) }
     ensures untouched { OnErr result (content out.new.held ≡ content out.old.held) }

@@ -7,7 +7,7 @@ use crate::call_error::CallError;
 use crate::finding::{find_into, match_into};
 use crate::text::Text;
 use crate::text_range::{TextRange, write_ranges};
-use regress::{Error, Range, Regex, Scratch};
+use regress::{Range, Regex, Scratch, SearchError};
 use std::alloc::Global;
 use std::sync::Arc;
 
@@ -19,6 +19,8 @@ pub const MAX_RANGES: usize = 65536;
 pub struct Search {
     regex: Arc<Regex>,
     scratch: Scratch,
+    /// How many steps the search for a match may take; any number where there is none.
+    max_steps: Option<usize>,
     /// The ranges of the last match: as many as each match has.
     slots: Vec<Option<Range>>,
     ghost counted: { vec_len slots ≡ length (names_of_regex (arc_value regex)) + 1 },
@@ -26,24 +28,26 @@ pub struct Search {
 }
 
 impl Search {
-    ghost use Rattle.std.specs.Prelude.{ℕ, List, Option, IfOk, IfErr, OnErr, OnOk, IsOkUnless, option_map, slice_get};
+    ghost use Rattle.std.specs.Prelude.{ℕ, List, Option, IfOk, IfErr, None, OnErr, OnOk, IsErrOf, option_map, slice_get};
     ghost use Rattle.regress_meaning.specs.Table.{Table};
     ghost use Rattle.regress_meaning.specs.Pattern.{Pattern};
     ghost use Rattle.regress_meaning.specs.Flags.{Options};
     ghost use Rattle.regress_meaning.specs.Matches.{Item, match_list};
     ghost use Rattle.regress_meaning.specs.Offsets.{told, Begins};
     ghost use Rattle.regress.specs.Outcomes.{outcome_at};
-    ghost use Rattle.regress_calls.specs.Texts.{reading_of_text, IsOfItsKind, StandsIn};
+    ghost use Rattle.regress_calls.specs.Texts.{reading_of_text, kind_of_text, units_of_text, IsOfItsKind, StandsIn};
     ghost use Rattle.regress_calls.specs.Ranges.{IsAnswerTo};
     ghost use Rattle.regress_calls.specs.Slotted.{IsInSlots};
-    ghost use Rattle.regress_calls.specs.Handles.{OfPattern};
+    ghost use Rattle.regress_programs.specs.declared.slots.Anchored.TheVariants.{No, Yes};
+    ghost use Rattle.regress_calls.specs.Handles.{OfPattern, OfSearch};
+    ghost use Rattle.regress_calls.specs.Stopping.{IsStopped};
     ghost use Rattle.regress_calls.specs.Many.{FoundAsManyAsFit, FoundMany, IsNext};
     ghost use Rattle.regress_calls.specs.Refusals.{MayRefuseCounted};
     ghost use Rattle.std.specs.declared.ops.Range.{Range as Ends};
 
     /// A search of a pattern. Errs with `OutOfMemory`; `TooManyGroups` can't come, since no pattern has more than 65535.
     pub fn new(alloc: Global, regex: Arc<Regex>) -> Result<Search, CallError>
-        ensures made { IfOk result (λ s. arc_value s.regex ≡ arc_value regex) }
+        ensures made { IfOk result (λ s. (arc_value s.regex ≡ arc_value regex) × (s.max_steps ≡ None)) }
         ensures refused { IfErr result (MayRefuseCounted (OfPattern (arc_value regex))) }
     {
         let count = regex.captures_len();
@@ -55,15 +59,29 @@ impl Search {
         Ok(Search {
             regex,
             scratch,
+            max_steps: None,
             slots,
         })
+    }
+
+    /// Bounds how many steps the search for a match may take from now on, or takes the bound away. At first there is none.
+    ///
+    /// ```rust
+    /// search.set_max_steps(Some(1_000_000));
+    /// ```
+    pub fn set_max_steps(&mut self, max_steps: Option<usize>)
+        ensures set { self.new.max_steps ≡ max_steps }
+        ensures kept { arc_value self.new.regex ≡ arc_value self.old.regex }
+    {
+        self.max_steps = max_steps;
     }
 
     /// Finds the first match from `start` on ("RegExpBuiltinExec"), and writes its ranges: that of the whole match, and those of
     /// its groups in order, as many as there is room for, and unset ones past the last.
     ///
     /// Answers how many ranges the match has, and 0 with nothing written where there is none. Asks that a search may begin at
-    /// `start`, as `Text::is_start` tells. Errs with `OutOfMemory` alone.
+    /// `start`, as `Text::is_start` tells. Errs with `OutOfMemory`, and with `TooManySteps` where the search would take more steps
+    /// than it may.
     ///
     /// ```rust
     /// let count = search.find(Text::Utf8("xaab"), 0, &mut ranges)?; // for `(a+)b` 2, at 1..4 and 1..3
@@ -73,7 +91,7 @@ impl Search {
         text: Text<'_>,
         start: usize,
         ranges: &mut [TextRange],
-    ) -> Result<usize, Error>
+    ) -> Result<usize, SearchError>
         requires kind { IsOfItsKind text }
         requires start { (place : ℕ) × Begins (reading_of_text text) start place }
         ensures found { (t : Table) → (o : Options) → (p : Pattern) → StandsIn text.entry (arc_value self.old.regex) t o p →
@@ -82,11 +100,19 @@ impl Search {
             (option_map (told (reading_of_text text.entry)) (slice_get (match_list t o p (reading_of_text text.entry).points place) 0))
             ranges.old count ranges.new) }
         ensures few { IfOk result (λ count. count ≤ 65536) }
-        ensures kept { arc_value self.new.regex ≡ arc_value self.old.regex }
-        ensures refused { IsOkUnless result Error.OutOfMemory }
+        ensures kept { (arc_value self.new.regex ≡ arc_value self.old.regex) × (self.new.max_steps ≡ self.old.max_steps) }
+        ensures stopped { IsErrOf result SearchError.TooManySteps →
+            IsStopped (OfSearch (arc_value self.old.regex) self.old.max_steps) No (kind_of_text text.entry) (units_of_text text.entry) start }
         ensures untouched { OnErr result (ranges.new ≡ ranges.old) }
     {
-        let found = find_into(&self.regex, &mut self.scratch, text, start, &mut self.slots)?;
+        let found = find_into(
+            &self.regex,
+            &mut self.scratch,
+            text,
+            start,
+            self.max_steps,
+            &mut self.slots,
+        )?;
         Ok(self.show(found, ranges))
     }
 
@@ -100,7 +126,7 @@ impl Search {
         text: Text<'_>,
         start: usize,
         ranges: &mut [TextRange],
-    ) -> Result<usize, Error>
+    ) -> Result<usize, SearchError>
         requires kind { IsOfItsKind text }
         requires start { (place : ℕ) × Begins (reading_of_text text) start place }
         ensures found { (t : Table) → (o : Options) → (p : Pattern) → StandsIn text.entry (arc_value self.old.regex) t o p →
@@ -109,11 +135,19 @@ impl Search {
             (option_map (told (reading_of_text text.entry)) (outcome_at t o p (reading_of_text text.entry).points place))
             ranges.old count ranges.new) }
         ensures few { IfOk result (λ count. count ≤ 65536) }
-        ensures kept { arc_value self.new.regex ≡ arc_value self.old.regex }
-        ensures refused { IsOkUnless result Error.OutOfMemory }
+        ensures kept { (arc_value self.new.regex ≡ arc_value self.old.regex) × (self.new.max_steps ≡ self.old.max_steps) }
+        ensures stopped { IsErrOf result SearchError.TooManySteps →
+            IsStopped (OfSearch (arc_value self.old.regex) self.old.max_steps) Yes (kind_of_text text.entry) (units_of_text text.entry) start }
         ensures untouched { OnErr result (ranges.new ≡ ranges.old) }
     {
-        let found = match_into(&self.regex, &mut self.scratch, text, start, &mut self.slots)?;
+        let found = match_into(
+            &self.regex,
+            &mut self.scratch,
+            text,
+            start,
+            self.max_steps,
+            &mut self.slots,
+        )?;
         Ok(self.show(found, ranges))
     }
 
@@ -121,8 +155,8 @@ impl Search {
     /// `k` stand from `ranges[k * width]` on.
     ///
     /// `*found` tells how many there are, and `*start` then tells where the search goes on: past the end where there is no other
-    /// match. Asks that a search may begin at `*start`, and that `width` is not 0. Errs with `OutOfMemory` alone; then both tell of
-    /// the matches before.
+    /// match. Asks that a search may begin at `*start`, and that `width` is not 0. Errs as `find` does, where each match may take as
+    /// many steps; then both tell of the matches before.
     ///
     /// ```rust
     /// search.find_many(Text::Utf8("aab ab"), &mut start, &mut ranges, 1, &mut found)?; // for `a+b` at 0..3 and 4..6
@@ -134,7 +168,7 @@ impl Search {
         ranges: &mut [TextRange],
         width: usize,
         found: &mut usize,
-    ) -> Result<(), Error>
+    ) -> Result<(), SearchError>
         requires kind { IsOfItsKind text }
         requires start { (place : ℕ) × Begins (reading_of_text text) start.old place }
         requires width { 0 < width }
@@ -146,8 +180,9 @@ impl Search {
             (place : ℕ) → Begins (reading_of_text text.entry) start.old place →
             FoundMany (reading_of_text text.entry) (match_list t o p (reading_of_text text.entry).points)
             (length (names_of_regex (arc_value self.old.regex))) width place found.new start.new ranges.new }
-        ensures kept { arc_value self.new.regex ≡ arc_value self.old.regex }
-        ensures refused { IsOkUnless result Error.OutOfMemory }
+        ensures kept { (arc_value self.new.regex ≡ arc_value self.old.regex) × (self.new.max_steps ≡ self.old.max_steps) }
+        ensures stopped { IsErrOf result SearchError.TooManySteps →
+            IsStopped (OfSearch (arc_value self.old.regex) self.old.max_steps) No (kind_of_text text.entry) (units_of_text text.entry) start.new }
     {
         *found = 0;
         let room = ranges.len() / width;
@@ -168,7 +203,7 @@ impl Search {
         text: Text<'_>,
         start: &mut usize,
         ranges: &mut [TextRange],
-    ) -> Result<bool, Error>
+    ) -> Result<bool, SearchError>
         requires kind { IsOfItsKind text }
         requires start { (place : ℕ) × Begins (reading_of_text text) start.old place }
         ensures found { (t : Table) → (o : Options) → (p : Pattern) → StandsIn text.entry (arc_value self.old.regex) t o p →
@@ -176,8 +211,9 @@ impl Search {
             IfOk result (λ found. IsNext (reading_of_text text.entry) (match_list t o p (reading_of_text text.entry).points)
             (length (names_of_regex (arc_value self.old.regex))) place found start.new ranges.new) }
         ensures start { (place : ℕ) × Begins (reading_of_text text.entry) start.new place }
-        ensures kept { arc_value self.new.regex ≡ arc_value self.old.regex }
-        ensures refused { IsOkUnless result Error.OutOfMemory }
+        ensures kept { (arc_value self.new.regex ≡ arc_value self.old.regex) × (self.new.max_steps ≡ self.old.max_steps) }
+        ensures stopped { IsErrOf result SearchError.TooManySteps →
+            IsStopped (OfSearch (arc_value self.old.regex) self.old.max_steps) No (kind_of_text text.entry) (units_of_text text.entry) start.old }
         ensures untouched { OnErr result (start.new ≡ start.old) }
     {
         let found = find_into(
@@ -185,6 +221,7 @@ impl Search {
             &mut self.scratch,
             text,
             *start,
+            self.max_steps,
             &mut self.slots,
         )?;
         *start = text.start_behind(&found);

@@ -1,9 +1,12 @@
-use Rattle.regress_c.proofs.CodeLemmas.{as-given, done-ok, done-err, IfErr-weaker}
+use Rattle.regress_c.proofs.CodeLemmas.{as-given, done-early, done-ok, done-err, IfErr-weaker}
 use Rattle.regress_c.proofs.CheckedLemmas.{checked-many}
 use Rattle.regress_c.proofs.many.regress_raw_find_many.Goals as goal
 
 pub returns-clause-found : goal.returns-clause-found
-returns-clause-found c = rw (as-given c.done_code.result c.done_code.type_inv) (rw (← c.in-Ok.ensures.text) (λ r holds t o p stands place begins. done-ok c.find_many.result c.done_code.result _ c.done_code.ensures (c.find_many.ensures.found r holds t o p stands place begins)))
+returns-clause-found c = rw (as-given c.done_code.result c.done_code.type_inv) (rw (← c.in-Ok.ensures.text) (λ r bound holds t o p stands place begins. done-ok c.find_many.result c.done_code.result _ c.done_code.ensures (c.find_many.ensures.found r bound holds t o p stands place begins)))
 
 pub returns-clause-refused : goal.returns-clause-refused
-returns-clause-refused c = rw (as-given c.done_code.result c.done_code.type_inv) (rw (← c.in-Ok.ensures.text) (done-err c.find_many.result c.done_code.result _ c.done_code.ensures (IfErr-weaker c.find_many.result _ _ (checked-many _ _ _ _ _) c.find_many.ensures.refused)))
+returns-clause-refused c = rw (as-given c.done_code.result c.done_code.type_inv) (rw (← c.in-Ok.ensures.text) (done-err c.find_many.result c.done_code.result _ c.done_code.ensures (IfErr-weaker c.find_many.result _ _ (checked-many _ _ _ _ _ _) c.find_many.ensures.refused)))
+
+pub returns-clause-before : goal.returns-clause-before
+returns-clause-before c = rw (as-given c.done_code.result c.done_code.type_inv) (rw (← c.in-Ok.ensures.text) (λ r bound holds t o p stands place begins early. c.find_many.ensures.before r bound holds t o p stands place begins (done-early c.find_many.result c.done_code.result c.done_code.ensures early)))

@@ -8,7 +8,7 @@ use Rattle.regress_calls.proofs.ManyLemmas.{NextAfter, next-after, none-yet, man
 use Rattle.regress_calls.proofs.search.Search.find_many.Goals as goal
 
 pub loop-found-init : goal.loop-found-init
-loop-found-init c = (refl, c.requires.start, λ t o p stands place begins. none-yet _ _ _ _ _ _ _ begins)
+loop-found-init c = ((refl, refl), c.requires.start, λ t o p stands place begins. none-yet _ _ _ _ _ _ _ begins)
 
 pub find_next-requires-clause-start : goal.find_next-requires-clause-start
 find_next-requires-clause-start c = c.loop-found.invariant.1
@@ -20,12 +20,12 @@ returns-in_err-find_next-clause-before c = λ t o p stands place begins.
     (c.loop-found.invariant.2 t o p stands place begins) (omega (arith, fits, c.loop-found.auto.ranges)) (search rules)
 
 pub returns-in_err-find_next-clause-kept : goal.returns-in_err-find_next-clause-kept
-returns-in_err-find_next-clause-kept c = c.find_next.ensures.kept ∙ c.loop-found.invariant.0
+returns-in_err-find_next-clause-kept c = (c.find_next.ensures.kept.0 ∙ c.loop-found.invariant.0.0, c.find_next.ensures.kept.1 ∙ c.loop-found.invariant.0.1)
 
 pub returns-then-not-branch-clause-found : goal.returns-then-not-branch-clause-found
 returns-then-not-branch-clause-found c = λ t o p stands place begins.
     let r = reading_of_text c.args.text in
-    let same = c.loop-found.invariant.0 in
+    let same = c.loop-found.invariant.0.0 in
     let fits = room-for-more c.loop-found.found (length c.args.ranges.now) c.args.width c.requires.width c.loop-found-test.true in
     let step : NextAfter c.args.text (arc_value c.args.self.now.regex) c.loop-found.start c.in_ok-find_next.field-0 c.find_next.new.start c.find_next.new.ranges
     = next-after _ _ _ _ _ _ _ same c.in_ok-find_next.ensures.found in
@@ -39,7 +39,7 @@ pub returns-then-not-branch-clause-before : goal.returns-then-not-branch-clause-
 returns-then-not-branch-clause-before c = λ t o p stands place begins. (returns-then-not-branch-clause-found c t o p stands place begins).many
 
 pub returns-then-not-branch-clause-kept : goal.returns-then-not-branch-clause-kept
-returns-then-not-branch-clause-kept c = c.find_next.ensures.kept ∙ c.loop-found.invariant.0
+returns-then-not-branch-clause-kept c = (c.find_next.ensures.kept.0 ∙ c.loop-found.invariant.0.0, c.find_next.ensures.kept.1 ∙ c.loop-found.invariant.0.1)
 
 pub loop-found-smaller : goal.loop-found-smaller
 loop-found-smaller c = omega (arith, c.loop-found-test.true)
@@ -47,12 +47,12 @@ loop-found-smaller c = omega (arith, c.loop-found-test.true)
 pub loop-found-preserved : goal.loop-found-preserved
 loop-found-preserved c =
     let r = reading_of_text c.args.text in
-    let same = c.loop-found.invariant.0 in
+    let same = c.loop-found.invariant.0.0 in
     let fits = room-for-more c.loop-found.found (length c.args.ranges.now) c.args.width c.requires.width c.loop-found-test.true in
     let step : NextAfter c.args.text (arc_value c.args.self.now.regex) c.loop-found.start c.in_ok-find_next.field-0 c.find_next.new.start c.find_next.new.ranges
     = next-after _ _ _ _ _ _ _ same c.in_ok-find_next.ensures.found in
     let other : c.in_ok-find_next.field-0 ≡ true = search rules in (
-      c.find_next.ensures.kept ∙ same,
+      (c.find_next.ensures.kept.0 ∙ same, c.find_next.ensures.kept.1 ∙ c.loop-found.invariant.0.1),
       c.find_next.ensures.start,
       λ t o p stands place begins.
           many-more r (match_list t o p r.points) (length (names_of_regex (arc_value c.args.self.now.regex))) c.args.width place c.loop-found.found c.loop-found.start c.find_next.new.start

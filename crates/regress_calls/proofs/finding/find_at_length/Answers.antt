@@ -1,6 +1,6 @@
 use Rattle.regress_calls.proofs.EndLemmas.{ends-in-text, ends-in-units}
 use Rattle.regress_calls.proofs.SlotLemmas.{in-slots}
-use Rattle.regress_calls.proofs.finding.find_into.Goals as goal
+use Rattle.regress_calls.proofs.finding.find_at_length.Goals as goal
 
 pub returns-in-Utf8-clause-found : goal.returns-in-Utf8-clause-found
 returns-in-Utf8-clause-found c = rw c.in-Utf8.is (λ t o p stands place begins. in-slots _ _ _ _ (c.find_into.ensures.found t o p stands place begins))
