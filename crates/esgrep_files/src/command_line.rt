@@ -109,6 +109,13 @@ fn with_patterns<'a>(alloc: Global, command: Command<'a>) -> Result<Command<'a>,
         "Refuse a pattern that may become more than N instructions, in the place of 1000000",
     )
     .value_parser(value_parser!(u32));
+    let max_steps = option(
+        alloc,
+        "max-steps",
+        "N",
+        "Give up each search that would take more than N steps, tell of its line, and go on",
+    )
+    .value_parser(value_parser!(u32));
     command
         .arg(pattern)?
         .arg(file)?
@@ -123,6 +130,7 @@ fn with_patterns<'a>(alloc: Global, command: Command<'a>) -> Result<Command<'a>,
         .arg(flag(alloc, 'x', "line-regexp", "A match takes the whole line"))?
         .arg(flags)?
         .arg(size_limit)?
+        .arg(max_steps)?
         .arg(flag(
             alloc,
             'U',

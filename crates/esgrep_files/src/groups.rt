@@ -1,7 +1,7 @@
 //! Matches with their groups, as lines of JSON.
 
 use crate::refusal::Refusal;
-use esgrep_lines::Finder;
+use esgrep_lines::{FindError, Finder};
 use esgrep_patterns::Patterns;
 use esgrep_rows::{Options, body_of, first_line};
 use memchr::memchr_iter;
@@ -63,13 +63,14 @@ impl Place<'_> {
 }
 
 /// Appends the line of JSON of each match in a text, each line of it searched alone, and answers how many lines have one, at most
-/// as many as the options say.
+/// as many as the options say. The offsets of lines whose search was given up are put into `given_up`.
 pub(crate) fn push_groups_of_lines(
     alloc: Global,
     patterns: &Patterns,
     options: &Options,
     name: &str,
     text: &str,
+    given_up: &mut Vec<usize>,
     rows: &mut String,
 ) -> Result<usize, Refusal> {
     let mut founds = Vec::new(alloc);
@@ -80,7 +81,7 @@ pub(crate) fn push_groups_of_lines(
         let (line, behind) = first_line(rest, options.ending);
         let body = body_of(line, options.ending);
         let start = text.len().saturating_sub(rest.len());
-        patterns.find_into(start, body, &mut founds)?;
+        find_or_note(patterns, start, body, &mut founds, given_up)?;
         let place = Place {
             alloc,
             name,
@@ -100,18 +101,39 @@ pub(crate) fn push_groups_of_lines(
     Ok(count)
 }
 
+/// Puts all matches in a text that stands at `start` into `founds`; none where the search is given up, and then `start` is noted.
+fn find_or_note(
+    patterns: &Patterns,
+    start: usize,
+    text: &str,
+    founds: &mut Vec<Match>,
+    given_up: &mut Vec<usize>,
+) -> Result<(), Refusal> {
+    match patterns.find_into(start, text, founds) {
+        Ok(()) => {}
+        Err(FindError::OutOfMemory) => return Err(Refusal::OutOfMemory),
+        Err(FindError::GivenUp) => {
+            founds.clear();
+            given_up.push(start)?;
+        }
+    }
+    Ok(())
+}
+
 /// Appends the line of JSON of each match in a text, which is searched whole, and answers how many matches there are, at most as
-/// many as the options say. The number is that of the line in which a match begins.
+/// many as the options say. The number is that of the line in which a match begins. Where the search is given up, there is none,
+/// and the offset of the text is put into `given_up`.
 pub(crate) fn push_groups(
     alloc: Global,
     patterns: &Patterns,
     options: &Options,
     name: &str,
     text: &str,
+    given_up: &mut Vec<usize>,
     rows: &mut String,
 ) -> Result<usize, Refusal> {
     let mut founds = Vec::new(alloc);
-    patterns.find_into(0, text, &mut founds)?;
+    find_or_note(patterns, 0, text, &mut founds, given_up)?;
     let mut number: usize = 1;
     let mut behind = 0;
     for found in founds.iter().take(options.most) {

@@ -10,10 +10,10 @@ use crate::settings::{Coloring, Settings};
 use crate::skimming::Skimmer;
 use crate::texts::{Content, content_of};
 use crate::words::read_contexts;
-use esgrep_lines::{Finder, Output, SearchError, Unwritten, search};
+use esgrep_lines::{FindError, Finder, Output, SearchError, Unwritten, search};
 use esgrep_patterns::{Patterns, parts_of};
 use esgrep_rows::{Ending, Mode, Options, Shown};
-use regress::Error;
+use memchr::memchr_iter;
 use regress_replacing::Template;
 use std::alloc::{AllocError, AllocFailed, Global};
 use std::fmt::Display;
@@ -75,12 +75,6 @@ impl From<SearchError> for Stop {
             SearchError::Write => Stop::Unwritten,
             SearchError::OutOfMemory => Stop::OutOfMemory,
         }
-    }
-}
-
-impl From<Error> for Stop {
-    fn from(_refused: Error) -> Stop {
-        Stop::OutOfMemory
     }
 }
 
@@ -200,6 +194,9 @@ fn with_settings<R: Runtime + AllocGlobal>(
     if settings.multiline && settings.replacement.is_some() {
         return Err(Refusal::Told(String::from_str(alloc, "--replace does not go with -U")?));
     }
+    if settings.max_steps == Some(0) {
+        return Err(Refusal::Told(String::from_str(alloc, "--max-steps is 1 at least")?));
+    }
     let regexes = regexes(rt, settings)?;
     let colored = is_colored(rt, settings.coloring, is_terminal);
     let template = template_text(alloc, settings, colored)?;
@@ -215,7 +212,7 @@ fn with_settings<R: Runtime + AllocGlobal>(
         rt,
         settings,
         options,
-        patterns: Patterns::new(regexes),
+        patterns: Patterns::new(regexes, settings.max_steps),
         shown,
         chosen: Chosen {
             include: Globs::new(alloc, &settings.include)?,
@@ -236,6 +233,26 @@ impl<'r, 's, 'a, 't, R: Runtime + AllocGlobal, W: Write + Drop> Search<'r, 's, '
         if !self.settings.silent {
             let rt = self.rt;
             let _ = eprintln!(rt; "esgrep: {path}: {message}");
+        }
+    }
+
+    /// Tells of the lines of a text that begin at these offsets, each behind the one before: their search was given up.
+    fn tell_given_up(&mut self, name: &str, text: &str, given_up: &[usize]) {
+        let rt = self.rt;
+        let steps = self.settings.max_steps.unwrap_or(0);
+        let mut number: usize = 1;
+        let mut behind = 0;
+        for start in given_up {
+            let passed = text.as_bytes().get(behind..*start).unwrap_or(&[]);
+            let ends = memchr_iter(self.options.ending.byte(), passed).count();
+            number = number.saturating_add(ends);
+            behind = *start;
+            self.tally.has_trouble = true;
+            if !self.settings.silent {
+                let _ = eprintln!(rt;
+                    "esgrep: {name}:{number}: the search was given up after {steps} steps"
+                );
+            }
         }
     }
 
@@ -404,41 +421,100 @@ impl<'r, 's, 'a, 't, R: Runtime + AllocGlobal, W: Write + Drop> Search<'r, 's, '
 
     /// Puts out the rows of a text, and answers how many lines are selected.
     fn put_lines(&mut self, options: Options, name: &str, text: &str) -> Result<usize, Stop> {
+        if self.settings.multiline {
+            self.put_joined_lines(options, name, text)
+        } else {
+            self.put_lines_alone(options, name, text)
+        }
+    }
+
+    /// The same where each line is searched alone.
+    fn put_lines_alone(&mut self, options: Options, name: &str, text: &str) -> Result<usize, Stop> {
         if self.output.failed() {
             return Err(Stop::Unwritten);
         }
         let alloc = self.rt.alloc();
-        let output = &mut self.output;
-        let count = if self.settings.multiline {
-            let parts = parts_of(alloc, &self.patterns, text, options.ending)?;
-            search(alloc, &parts, &self.shown, &options, name, text, output)?
-        } else {
-            search(
-                alloc,
-                &self.patterns,
-                &self.shown,
-                &options,
-                name,
-                text,
-                output,
-            )?
+        let mut given_up = Vec::new(alloc);
+        let count = search(
+            alloc,
+            &self.patterns,
+            &self.shown,
+            &options,
+            name,
+            text,
+            &mut given_up,
+            &mut self.output,
+        )?;
+        self.tell_given_up(name, text, &given_up);
+        Ok(count)
+    }
+
+    /// The same where a match may cross lines: the text is searched at once. Where that is given up, none of its lines is selected,
+    /// and it is told by its first one.
+    fn put_joined_lines(
+        &mut self,
+        options: Options,
+        name: &str,
+        text: &str,
+    ) -> Result<usize, Stop> {
+        let alloc = self.rt.alloc();
+        let parts = match parts_of(alloc, &self.patterns, text, options.ending) {
+            Ok(parts) => parts,
+            Err(FindError::OutOfMemory) => return Err(Stop::OutOfMemory),
+            Err(FindError::GivenUp) => {
+                self.tell_given_up(name, text, &[0]);
+                return self.put_lines_alone(options, name, "");
+            }
         };
+        if self.output.failed() {
+            return Err(Stop::Unwritten);
+        }
+        let mut given_up = Vec::new(alloc);
+        let count = search(
+            alloc,
+            &parts,
+            &self.shown,
+            &options,
+            name,
+            text,
+            &mut given_up,
+            &mut self.output,
+        )?;
         Ok(count)
     }
 
     /// Puts out a line of JSON for each match in a text, and answers how many lines have one; with `-U` how many matches there are.
     fn put_groups(&mut self, name: &str, text: &str) -> Result<usize, Stop> {
         let alloc = self.rt.alloc();
+        let (patterns, options) = (&self.patterns, &self.options);
+        let mut given_up = Vec::new(alloc);
         let mut rows = String::new(alloc);
         let count = if self.settings.multiline {
-            push_groups(alloc, &self.patterns, &self.options, name, text, &mut rows)?
+            push_groups(
+                alloc,
+                patterns,
+                options,
+                name,
+                text,
+                &mut given_up,
+                &mut rows,
+            )?
         } else {
-            push_groups_of_lines(alloc, &self.patterns, &self.options, name, text, &mut rows)?
+            push_groups_of_lines(
+                alloc,
+                patterns,
+                options,
+                name,
+                text,
+                &mut given_up,
+                &mut rows,
+            )?
         };
         if self.output.failed() {
             return Err(Stop::Unwritten);
         }
         self.output.put(rows.as_bytes())?;
+        self.tell_given_up(name, text, &given_up);
         Ok(count)
     }
 

@@ -40,6 +40,8 @@ pub(crate) struct Settings<'a> {
     pub whole_lines: bool,
     /// How many instructions a program of a pattern may have.
     pub size_limit: usize,
+    /// How many steps each search may take, where there is a bound.
+    pub max_steps: Option<usize>,
     pub multiline: bool,
     pub replacement: Option<&'a str>,
     pub groups: bool,
@@ -163,6 +165,7 @@ impl<'a> Settings<'a> {
             words: matches.get_flag("word-regexp"),
             whole_lines: matches.get_flag("line-regexp"),
             size_limit: number(matches, "regex-size-limit").unwrap_or(DEFAULT_LIMIT),
+            max_steps: number(matches, "max-steps"),
             multiline: matches.get_flag("multiline"),
             replacement: matches.get_str("replace"),
             groups: matches.get_flag("groups"),

@@ -5,11 +5,12 @@ use std::alloc::{AllocError, Global};
 /// The letters of the options that take a value, and their names.
 const LETTERS: &[u8] = b"efmABC";
 
-const NAMES: [&str; 11] = [
+const NAMES: [&str; 12] = [
     "--regexp",
     "--file",
     "--flags",
     "--regex-size-limit",
+    "--max-steps",
     "--max-count",
     "--replace",
     "--after-context",

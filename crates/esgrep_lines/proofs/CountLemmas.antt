@@ -9,7 +9,7 @@ use Rattle.esgrep_rows.specs.declared.options.Options.{Options}
 use Rattle.esgrep_rows.specs.declared.options.Mode.{Mode}
 use Rattle.esgrep_rows.specs.declared.options.Mode.TheVariants.{Lines, Matches, Count, WithMatch, WithoutMatch, Quiet}
 use Rattle.esgrep_rows.specs.Lines.{Line, numbered, numbered_lines, lines, byte_of}
-use Rattle.esgrep_rows.specs.Found.{Found, Find}
+use Rattle.esgrep_rows.specs.Found.{Found, Seen}
 use Rattle.esgrep_rows.specs.Rows.{is_selected, selected_lines}
 use Rattle.esgrep_lines.specs.Output.{count_from, count_of, told_count, needed, summary, summary_of}
 
@@ -43,21 +43,21 @@ found-is empty invert (suc n) is =
     by_invert false = refl
 
 -- one line more
-pub count-one : (o : Options) (find : Find) (n start : ℕ) (line : List ℕ) (lines : List (List ℕ)) → 0 < n
-    → count_from o find n start (line ∷ lines)
-    ≡ (if is_selected o find start line then count_from o find (n - 1) (start + length line) lines + 1 else count_from o find n (start + length line) lines)
+pub count-one : (o : Options) (seen : Seen) (n start : ℕ) (line : List ℕ) (lines : List (List ℕ)) → 0 < n
+    → count_from o seen n start (line ∷ lines)
+    ≡ (if is_selected o seen start line then count_from o seen (n - 1) (start + length line) lines + 1 else count_from o seen n (start + length line) lines)
 unfolding count_from
-count-one o find zero start line lines some = absurd (omega (arith, some))
-count-one o find (suc n) start line lines some = simp unary_clauses refl
+count-one o seen zero start line lines some = absurd (omega (arith, some))
+count-one o seen (suc n) start line lines some = simp unary_clauses refl
 
-pub count-none : (o : Options) (find : Find) (n start : ℕ) → count_from o find n start [] ≡ 0
+pub count-none : (o : Options) (seen : Seen) (n start : ℕ) → count_from o seen n start [] ≡ 0
 unfolding count_from
-count-none o find zero start = refl
-count-none o find (suc n) start = refl
+count-none o seen zero start = refl
+count-none o seen (suc n) start = refl
 
-pub count-zero : (o : Options) (find : Find) (start : ℕ) (lines : List (List ℕ)) → count_from o find 0 start lines ≡ 0
+pub count-zero : (o : Options) (seen : Seen) (start : ℕ) (lines : List (List ℕ)) → count_from o seen 0 start lines ≡ 0
 unfolding count_from
-count-zero o find start lines = refl
+count-zero o seen start lines = refl
 
 -- a test counts as one or none
 pub one-at-most : (b : Bool) → from_bool b ≤ 1
@@ -65,58 +65,58 @@ one-at-most true = lit≤ tt
 one-at-most false = lit≤ tt
 
 -- a line more was searched, and counted where it is selected
-pub count-step : (o : Options) (find : Find) (most count next start : ℕ) (line : List ℕ) (lines : List (List ℕ)) (selected : Bool)
-    → selected ≡ (nat_lt count most && is_selected o find start line) → next ≡ count + from_bool selected
-    → next + count_from o find (most - next) (start + length line) lines ≡ count + count_from o find (most - count) start (line ∷ lines)
-count-step o find most count next start line lines selected is to = by_test (nat_lt count most) (is_selected o find start line) refl refl
+pub count-step : (o : Options) (seen : Seen) (most count next start : ℕ) (line : List ℕ) (lines : List (List ℕ)) (selected : Bool)
+    → selected ≡ (nat_lt count most && is_selected o seen start line) → next ≡ count + from_bool selected
+    → next + count_from o seen (most - next) (start + length line) lines ≡ count + count_from o seen (most - count) start (line ∷ lines)
+count-step o seen most count next start line lines selected is to = by_test (nat_lt count most) (is_selected o seen start line) refl refl
   where
-    by_test : (may chosen : Bool) → nat_lt count most ≡ may → is_selected o find start line ≡ chosen
-        → next + count_from o find (most - next) (start + length line) lines ≡ count + count_from o find (most - count) start (line ∷ lines)
+    by_test : (may chosen : Bool) → nat_lt count most ≡ may → is_selected o seen start line ≡ chosen
+        → next + count_from o seen (most - next) (start + length line) lines ≡ count + count_from o seen (most - count) start (line ∷ lines)
     by_test false chosen may chosen_is =
         let most_is : most ≤ count = ltb-false count most may in
         let full : most - count ≡ 0 = omega arith in
-        let none : selected ≡ false = is ∙ ap (λ b. b && is_selected o find start line) may in
+        let none : selected ≡ false = is ∙ ap (λ b. b && is_selected o seen start line) may in
         let stays : next ≡ count = to ∙ ap (λ b. count + from_bool b) none ∙ add-zero count in
-        rw (stays, full, count-zero o find (start + length line) lines, count-zero o find start (line ∷ lines)) refl
+        rw (stays, full, count-zero o seen (start + length line) lines, count-zero o seen start (line ∷ lines)) refl
     by_test true false may chosen_is =
         let most_is : count < most = ltb-true count most may in
         let some : 0 < most - count = omega arith in
-        let none : selected ≡ false = is ∙ ap (λ b. b && is_selected o find start line) may ∙ chosen_is in
+        let none : selected ≡ false = is ∙ ap (λ b. b && is_selected o seen start line) may ∙ chosen_is in
         let stays : next ≡ count = to ∙ ap (λ b. count + from_bool b) none ∙ add-zero count in
-        rw (stays, count-one o find (most - count) start line lines some, chosen_is) refl
+        rw (stays, count-one o seen (most - count) start line lines some, chosen_is) refl
     by_test true true may chosen_is =
         let most_is : count < most = ltb-true count most may in
         let some : 0 < most - count = omega arith in
-        let one : selected ≡ true = is ∙ ap (λ b. b && is_selected o find start line) may ∙ chosen_is in
+        let one : selected ≡ true = is ∙ ap (λ b. b && is_selected o seen start line) may ∙ chosen_is in
         let goes : next ≡ count + 1 = to ∙ ap (λ b. count + from_bool b) one in
         let fewer : most - (count + 1) ≡ most - count - 1 = omega arith in
-        rw (goes, count-one o find (most - count) start line lines some, chosen_is, fewer) (omega arith)
+        rw (goes, count-one o seen (most - count) start line lines some, chosen_is, fewer) (omega arith)
 
 -- the lines of these that are selected
-abbrev pub chosen : Options → Find → List Line → List Line
-chosen o find lines = filter (λ line. is_selected o find line.start line.bytes) lines
+abbrev pub chosen : Options → Seen → List Line → List Line
+chosen o seen lines = filter (λ line. is_selected o seen line.start line.bytes) lines
 
-chosen-none : (o : Options) (find : Find) (n number start : ℕ) → length (take n (chosen o find (numbered number start []))) ≡ 0
+chosen-none : (o : Options) (seen : Seen) (n number start : ℕ) → length (take n (chosen o seen (numbered number start []))) ≡ 0
 unfolding numbered
-chosen-none o find zero number start = refl
-chosen-none o find (suc n) number start = refl
+chosen-none o seen zero number start = refl
+chosen-none o seen (suc n) number start = refl
 
-chosen-more : (o : Options) (find : Find) (n number start : ℕ) (line : List ℕ) (lines : List (List ℕ)) (is : Bool) → is_selected o find start line ≡ is
-    → count_from o find n (start + length line) lines ≡ length (take n (chosen o find (numbered (number + 1) (start + length line) lines)))
-    → count_from o find (suc n) (start + length line) lines ≡ length (take (suc n) (chosen o find (numbered (number + 1) (start + length line) lines)))
-    → count_from o find (suc n) start (line ∷ lines) ≡ length (take (suc n) (chosen o find (numbered number start (line ∷ lines))))
+chosen-more : (o : Options) (seen : Seen) (n number start : ℕ) (line : List ℕ) (lines : List (List ℕ)) (is : Bool) → is_selected o seen start line ≡ is
+    → count_from o seen n (start + length line) lines ≡ length (take n (chosen o seen (numbered (number + 1) (start + length line) lines)))
+    → count_from o seen (suc n) (start + length line) lines ≡ length (take (suc n) (chosen o seen (numbered (number + 1) (start + length line) lines)))
+    → count_from o seen (suc n) start (line ∷ lines) ≡ length (take (suc n) (chosen o seen (numbered number start (line ∷ lines))))
 unfolding numbered count_from
-chosen-more o find n number start line lines true is less same = rw (is, less) (omega arith)
-chosen-more o find n number start line lines false is less same = rw is same
+chosen-more o seen n number start line lines true is less same = rw (is, less) (omega arith)
+chosen-more o seen n number start line lines false is less same = rw is same
 
 -- what is counted is how many of the lines that are selected are taken
-pub count-all : (o : Options) (find : Find) (n number start : ℕ) (lines : List (List ℕ))
-    → count_from o find n start lines ≡ length (take n (chosen o find (numbered number start lines)))
-count-all o find n number start [] = count-none o find n start ∙ sym (chosen-none o find n number start)
-count-all o find zero number start (line ∷ lines) = count-zero o find start (line ∷ lines)
-count-all o find (suc n) number start (line ∷ lines) =
-    chosen-more o find n number start line lines (is_selected o find start line) refl
-    (count-all o find n (number + 1) (start + length line) lines) (count-all o find (suc n) (number + 1) (start + length line) lines)
+pub count-all : (o : Options) (seen : Seen) (n number start : ℕ) (lines : List (List ℕ))
+    → count_from o seen n start lines ≡ length (take n (chosen o seen (numbered number start lines)))
+count-all o seen n number start [] = count-none o seen n start ∙ sym (chosen-none o seen n number start)
+count-all o seen zero number start (line ∷ lines) = count-zero o seen start (line ∷ lines)
+count-all o seen (suc n) number start (line ∷ lines) =
+    chosen-more o seen n number start line lines (is_selected o seen start line) refl
+    (count-all o seen n (number + 1) (start + length line) lines) (count-all o seen (suc n) (number + 1) (start + length line) lines)
 
 one_of : (most : ℕ) (lines : List Line) → length (take (min most 1) lines) ≡ min 1 (length (take most lines))
 one_of most lines = omega (arith, length-take (min most 1) lines, length-take most lines)
@@ -159,38 +159,38 @@ empty-text [] empty is told = refl
 empty-text (b ∷ rest) empty is told = let none : length (b ∷ rest) ≡ 0 = eqb-true (length (b ∷ rest)) 0 (sym is ∙ told) in absurd (omega (arith, none))
 
 -- no line is left, so all are counted
-pub count-over_text : (o : Options) (find : Find) (end most count start : ℕ) (rest : List ℕ) (all : ℕ) → rest ≡ []
-    → count + count_from o find (most - count) start (lines end rest) ≡ all → count ≡ all
-count-over_text o find end most count start rest all none counted =
-    let over : count_from o find (most - count) start (lines end rest) ≡ 0 =
-    ap (λ t. count_from o find (most - count) start (lines end t)) none
-    ∙ ap (count_from o find (most - count) start) (lines-none end) ∙ count-none o find (most - count) start in
+pub count-over_text : (o : Options) (seen : Seen) (end most count start : ℕ) (rest : List ℕ) (all : ℕ) → rest ≡ []
+    → count + count_from o seen (most - count) start (lines end rest) ≡ all → count ≡ all
+count-over_text o seen end most count start rest all none counted =
+    let over : count_from o seen (most - count) start (lines end rest) ≡ 0 =
+    ap (λ t. count_from o seen (most - count) start (lines end t)) none
+    ∙ ap (count_from o seen (most - count) start) (lines-none end) ∙ count-none o seen (most - count) start in
     omega (arith, over, counted)
 
 -- as many are counted as may be
-pub count-over_most : (o : Options) (find : Find) (most count start : ℕ) (lines : List (List ℕ)) (all : ℕ) → most ≤ count
-    → count + count_from o find (most - count) start lines ≡ all → count ≡ all
-count-over_most o find most count start lines all full counted =
+pub count-over_most : (o : Options) (seen : Seen) (most count start : ℕ) (lines : List (List ℕ)) (all : ℕ) → most ≤ count
+    → count + count_from o seen (most - count) start lines ≡ all → count ≡ all
+count-over_most o seen most count start lines all full counted =
     let none : most - count ≡ 0 = omega (arith, full) in
-    let over : count_from o find (most - count) start lines ≡ 0 = ap (λ n. count_from o find n start lines) none ∙ count-zero o find start lines in
+    let over : count_from o seen (most - count) start lines ≡ 0 = ap (λ n. count_from o seen n start lines) none ∙ count-zero o seen start lines in
     omega (arith, over, counted)
 
 -- a text's lines that are selected, as they are counted
-pub count-selected : (o : Options) (find : Find) (text : List ℕ)
-    → count_from o find o.most 0 (lines (byte_of o.ending) text) ≡ length (selected_lines o find text)
-count-selected o find text = count-all o find o.most 1 0 (lines (byte_of o.ending) text)
+pub count-selected : (o : Options) (seen : Seen) (text : List ℕ)
+    → count_from o seen o.most 0 (lines (byte_of o.ending) text) ≡ length (selected_lines o seen text)
+count-selected o seen text = count-all o seen o.most 1 0 (lines (byte_of o.ending) text)
 
 -- and how many of them are told of
-pub count-told : (o : Options) (find : Find) (text : List ℕ) (limit count : ℕ) → limit ≡ needed o.mode o.most
-    → count ≡ count_from o find limit 0 (lines (byte_of o.ending) text) → count ≡ count_of o find text
-count-told o find text limit count is counted =
-    counted ∙ ap (λ n. count_from o find n 0 (lines (byte_of o.ending) text)) is
-    ∙ count-all o find (needed o.mode o.most) 1 0 (lines (byte_of o.ending) text)
-    ∙ told-needed o.mode o.most (chosen o find (numbered_lines o.ending text))
+pub count-told : (o : Options) (seen : Seen) (text : List ℕ) (limit count : ℕ) → limit ≡ needed o.mode o.most
+    → count ≡ count_from o seen limit 0 (lines (byte_of o.ending) text) → count ≡ count_of o seen text
+count-told o seen text limit count is counted =
+    counted ∙ ap (λ n. count_from o seen n 0 (lines (byte_of o.ending) text)) is
+    ∙ count-all o seen (needed o.mode o.most) 1 0 (lines (byte_of o.ending) text)
+    ∙ told-needed o.mode o.most (chosen o seen (numbered_lines o.ending text))
 
 -- the row that tells it
-pub row-told : (o : Options) (find : Find) (name text : List ℕ) (count : ℕ) (old row bytes : List ℕ) → old ≡ [] → row ≡ old ++ summary o name o.mode count
-    → bytes ≡ row → count ≡ count_of o find text → bytes ≡ summary_of o find name text
-row-told o find name text count old row bytes none pushed is counted =
+pub row-told : (o : Options) (seen : Seen) (name text : List ℕ) (count : ℕ) (old row bytes : List ℕ) → old ≡ [] → row ≡ old ++ summary o name o.mode count
+    → bytes ≡ row → count ≡ count_of o seen text → bytes ≡ summary_of o seen name text
+row-told o seen name text count old row bytes none pushed is counted =
     is ∙ pushed ∙ ap (λ l. l ++ summary o name o.mode count) none ∙ ap (summary o name o.mode) counted
-    ∙ summary-told o name o.mode (length (selected_lines o find text))
+    ∙ summary-told o name o.mode (length (selected_lines o seen text))

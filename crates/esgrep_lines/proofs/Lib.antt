@@ -5,3 +5,4 @@ pub mod RowsLemmas
 pub mod PassingLemmas
 pub mod PartLemmas
 pub mod TouchedLemmas
+pub mod GivenUpLemmas

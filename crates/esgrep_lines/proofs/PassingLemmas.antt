@@ -8,7 +8,7 @@ use Rattle.std.proofs.lemmas.List.Sums.{sum_by-cons}
 use Rattle.memchr.proofs.lemmas.MatchLemmas.{OccursAt-from_part}
 use Rattle.esgrep_rows.specs.declared.options.Options.{Options}
 use Rattle.esgrep_rows.specs.Lines.{Line, lines, numbered, body, tail, byte_of, StandNowhere, AreWithout}
-use Rattle.esgrep_rows.specs.Found.{Found, Find, rewritten}
+use Rattle.esgrep_rows.specs.Found.{Found, Seen, rewritten}
 use Rattle.esgrep_rows.specs.Views.{puts_matches}
 use Rattle.esgrep_rows.specs.Rows.{Progress, rows, is_selected, held_back, left_out, following, found_at_line, before_row, selected_row, near_row, match_row, line_row, front, name_field, number_field}
 use Rattle.esgrep_rows.proofs.CuttingLemmas.{lines-size, lines-some}
@@ -23,38 +23,42 @@ pub borrowed : {X : Type 0} (P : X → Type 0) (o : Option (Bor X)) (v : Option 
 borrowed P None v is holds = tt
 borrowed P (Some b) v is holds = subst (λ v. IfSome v P) (sym is) holds
 
+and-false : (a b : Bool) → b ≡ false → (a && b) ≡ false
+and-false true b e = e
+and-false false b e = refl
+
 -- a line in which nothing is found is not selected
-pub nothing-unselected : (o : Options) (find : Find) (start : ℕ) (line : List ℕ) → o.invert ≡ false → find start (body o.ending line) ≡ [] → is_selected o find start line ≡ false
-nothing-unselected o find start line plain none =
+pub nothing-unselected : (o : Options) (seen : Seen) (start : ℕ) (line : List ℕ) → o.invert ≡ false → seen.find start (body o.ending line) ≡ [] → is_selected o seen start line ≡ false
+nothing-unselected o seen start line plain none =
     let has : List Found → Bool = λ founds. nat_lt 0 (length founds) in
-    ap₂ (λ (b : Bool) (founds : List Found). if b then not (has founds) else has founds) plain none
+    and-false (not (seen.is_given_up start)) _ (ap₂ (λ (b : Bool) (founds : List Found). if b then not (has founds) else has founds) plain none)
 
 -- lines without bytes that are needed are not selected
-pub without-unselected : (o : Options) (find : Find) (bytes : List ℕ) (lines : List (List ℕ)) → AreNeeded o find bytes → AreWithout o.ending bytes lines → AreUnselected o find lines
-without-unselected o find bytes lines needed without = λ k d below start. let h = without k d below in needed start (get_or lines k d) h.0 h.1
+pub without-unselected : (o : Options) (seen : Seen) (bytes : List ℕ) (lines : List (List ℕ)) → AreNeeded o seen bytes → AreWithout o.ending bytes lines → AreUnselected o seen lines
+without-unselected o seen bytes lines needed without = λ k d below start. let h = without k d below in needed start (get_or lines k d) h.0 h.1
 
 unchosen : (b : Bool) (x y : ℕ) → b ≡ false → (if b then x else y) ≡ y
 unchosen true x y e = absurd (cc e)
 unchosen false x y e = refl
 
 -- none of them counts
-count-past : (o : Options) (find : Find) (n start : ℕ) (xs ys : List (List ℕ)) → AreUnselected o find xs
-    → count_from o find n (start + sum_by length xs) ys ≡ count_from o find n start (xs ++ ys)
-count-past o find n start [] ys none = ap (λ s. count_from o find n s ys) (add-zero start)
-count-past o find zero start (x ∷ xs) ys none = count-zero o find (start + sum_by length (x ∷ xs)) ys ∙ sym (count-zero o find start (x ∷ (xs ++ ys)))
-count-past o find (suc n) start (x ∷ xs) ys none =
-    let here : is_selected o find start x ≡ false = All-head (λ line. (start : ℕ) → is_selected o find start line ≡ false) x xs none start in
-    let rest = count-past o find (suc n) (start + length x) xs ys (All-tail (λ line. (start : ℕ) → is_selected o find start line ≡ false) x xs none) in
+count-past : (o : Options) (seen : Seen) (n start : ℕ) (xs ys : List (List ℕ)) → AreUnselected o seen xs
+    → count_from o seen n (start + sum_by length xs) ys ≡ count_from o seen n start (xs ++ ys)
+count-past o seen n start [] ys none = ap (λ s. count_from o seen n s ys) (add-zero start)
+count-past o seen zero start (x ∷ xs) ys none = count-zero o seen (start + sum_by length (x ∷ xs)) ys ∙ sym (count-zero o seen start (x ∷ (xs ++ ys)))
+count-past o seen (suc n) start (x ∷ xs) ys none =
+    let here : is_selected o seen start x ≡ false = All-head (λ line. (start : ℕ) → is_selected o seen start line ≡ false) x xs none start in
+    let rest = count-past o seen (suc n) (start + length x) xs ys (All-tail (λ line. (start : ℕ) → is_selected o seen start line ≡ false) x xs none) in
     let at : start + sum_by length (x ∷ xs) ≡ start + length x + sum_by length xs = omega (arith, sum_by-cons length x xs) in
-    ap (λ s. count_from o find (suc n) s ys) at ∙ rest
-    ∙ sym (count-one o find (suc n) start x (xs ++ ys) (omega arith) ∙ unchosen (is_selected o find start x) (count_from o find (suc n - 1) (start + length x) (xs ++ ys) + 1) (count_from o find (suc n) (start + length x) (xs ++ ys)) here)
+    ap (λ s. count_from o seen (suc n) s ys) at ∙ rest
+    ∙ sym (count-one o seen (suc n) start x (xs ++ ys) (omega arith) ∙ unchosen (is_selected o seen start x) (count_from o seen (suc n - 1) (start + length x) (xs ++ ys) + 1) (count_from o seen (suc n) (start + length x) (xs ++ ys)) here)
 
-pub count-passed : (o : Options) (find : Find) (end n start : ℕ) (text passed rest : List ℕ) → lines end text ≡ lines end passed ++ lines end rest
-    → AreUnselected o find (lines end passed)
-    → count_from o find n (start + length passed) (lines end rest) ≡ count_from o find n start (lines end text)
-count-passed o find end n start text passed rest cut none =
-    ap (λ s. count_from o find n (start + s) (lines end rest)) (sym (lines-size end passed))
-    ∙ count-past o find n start (lines end passed) (lines end rest) none ∙ ap (count_from o find n start) (sym cut)
+pub count-passed : (o : Options) (seen : Seen) (end n start : ℕ) (text passed rest : List ℕ) → lines end text ≡ lines end passed ++ lines end rest
+    → AreUnselected o seen (lines end passed)
+    → count_from o seen n (start + length passed) (lines end rest) ≡ count_from o seen n start (lines end text)
+count-passed o seen end n start text passed rest cut none =
+    ap (λ s. count_from o seen n (start + s) (lines end rest)) (sym (lines-size end passed))
+    ∙ count-past o seen n start (lines end passed) (lines end rest) none ∙ ap (count_from o seen n start) (sym cut)
 
 -- progress behind lines that are left out
 abbrev past : List (List ℕ) → Progress → Progress
@@ -85,29 +89,25 @@ held-none o p line none =
     let gap : (p.has_gap || nat_lt o.before (length held)) ≡ true = or-true p.has_gap (nat_lt o.before (length held)) (lt-ltb o.before (length held) (omega (arith, none, some))) in
     ap₂ (made p.is_begun) dropped gap
 
-and-false : (a b : Bool) → b ≡ false → (a && b) ≡ false
-and-false true b e = e
-and-false false b e = refl
-
 -- lines that are not selected are left out, where none stands near a selected one
-rows-past : (o : Options) (find : Find) (name : List ℕ) (most number start : ℕ) (p : Progress) (xs ys : List (List ℕ)) → AreUnselected o find xs → o.before ≡ 0 → p.behind ≡ 0
-    → rows o find name most (past xs p) (numbered (number + length xs) (start + sum_by length xs) ys) ≡ rows o find name most p (numbered number start (xs ++ ys))
-rows-past o find name most number start p [] ys none before behind =
-    ap₂ (λ n s. rows o find name most p (numbered n s ys)) (add-zero number) (add-zero start)
-rows-past o find name most number start p (x ∷ xs) ys none before behind =
+rows-past : (o : Options) (seen : Seen) (name : List ℕ) (most number start : ℕ) (p : Progress) (xs ys : List (List ℕ)) → AreUnselected o seen xs → o.before ≡ 0 → p.behind ≡ 0
+    → rows o seen name most (past xs p) (numbered (number + length xs) (start + sum_by length xs) ys) ≡ rows o seen name most p (numbered number start (xs ++ ys))
+rows-past o seen name most number start p [] ys none before behind =
+    ap₂ (λ n s. rows o seen name most p (numbered n s ys)) (add-zero number) (add-zero start)
+rows-past o seen name most number start p (x ∷ xs) ys none before behind =
     let line : Line = record { number = number; start = start; bytes = x } in
     let more : List Line = numbered (number + 1) (start + length x) (xs ++ ys) in
-    let here : (nat_lt 0 most && is_selected o find start x) ≡ false =
-    and-false (nat_lt 0 most) (is_selected o find start x) (All-head (λ line. (start : ℕ) → is_selected o find start line ≡ false) x xs none start) in
+    let here : (nat_lt 0 most && is_selected o seen start x) ≡ false =
+    and-false (nat_lt 0 most) (is_selected o seen start x) (All-head (λ line. (start : ℕ) → is_selected o seen start line ≡ false) x xs none start) in
     let free : nat_lt 0 p.behind ≡ false = le-ltb 0 p.behind (omega (arith, behind)) in
-    let rest = rows-past o find name most (number + 1) (start + length x) (left_out p) xs ys (All-tail (λ line. (start : ℕ) → is_selected o find start line ≡ false) x xs none) before refl in
+    let rest = rows-past o seen name most (number + 1) (start + length x) (left_out p) xs ys (All-tail (λ line. (start : ℕ) → is_selected o seen start line ≡ false) x xs none) before refl in
     let count : number + length (x ∷ xs) ≡ number + 1 + length xs = omega arith in
     let at : start + sum_by length (x ∷ xs) ≡ start + length x + sum_by length xs = omega (arith, sum_by-cons length x xs) in
-    ap₂ (λ n s. rows o find name most (left_out p) (numbered n s ys)) count at
-    ∙ ap (λ q. rows o find name most q (numbered (number + 1 + length xs) (start + length x + sum_by length xs) ys)) (sym (past-left xs p))
+    ap₂ (λ n s. rows o seen name most (left_out p) (numbered n s ys)) count at
+    ∙ ap (λ q. rows o seen name most q (numbered (number + 1 + length xs) (start + length x + sum_by length xs) ys)) (sym (past-left xs p))
     ∙ rest
-    ∙ ap (λ q. rows o find name most q more) (sym (held-none o p line before))
-    ∙ sym (ap (rows o find name most p) (numbered-line number start x (xs ++ ys)) ∙ rows-held o find name most p line more here free)
+    ∙ ap (λ q. rows o seen name most q more) (sym (held-none o p line before))
+    ∙ sym (ap (rows o seen name most p) (numbered-line number start x (xs ++ ys)) ∙ rows-held o seen name most p line more here free)
 
 cond-same : (c : Bool) (a b x y : List ℕ) → a ≡ x → b ≡ y → (if c then a else b) ≡ (if c then x else y)
 cond-same true a b x y e f = e
@@ -145,47 +145,47 @@ module _ (o : Options) (name : List ℕ) (n m start : ℕ) (bytes : List ℕ) (n
   near_row-same = cond-same (puts_matches o.mode) [] _ [] _ refl (line_row-same (codes "-") (body o.ending bytes))
 
 -- where no number is put out, it does not matter from which on lines are numbered
-rows-unnumbered : (o : Options) (find : Find) (name : List ℕ) (most n m start : ℕ) (p : Progress) (ls : List (List ℕ)) → o.before ≡ 0 → o.numbers ≡ false
-    → rows o find name most p (numbered n start ls) ≡ rows o find name most p (numbered m start ls)
+rows-unnumbered : (o : Options) (seen : Seen) (name : List ℕ) (most n m start : ℕ) (p : Progress) (ls : List (List ℕ)) → o.before ≡ 0 → o.numbers ≡ false
+    → rows o seen name most p (numbered n start ls) ≡ rows o seen name most p (numbered m start ls)
 unfolding rows numbered
-rows-unnumbered o find name most n m start p [] before none = refl
-rows-unnumbered o find name most n m start p (x ∷ xs) before none =
+rows-unnumbered o seen name most n m start p [] before none = refl
+rows-unnumbered o seen name most n m start p (x ∷ xs) before none =
     let a : Line = record { number = n; start = start; bytes = x } in
     let b : Line = record { number = m; start = start; bytes = x } in
-    let more : (most : ℕ) (q : Progress) → rows o find name most q (numbered (n + 1) (start + length x) xs) ≡ rows o find name most q (numbered (m + 1) (start + length x) xs) =
-    λ most q. rows-unnumbered o find name most (n + 1) (m + 1) (start + length x) q xs before none in
-    cond-same (nat_lt 0 most && is_selected o find start x) _ _ _ _
-    (ap₂ (λ row rest. before_row o name p ++ row ++ rest) (selected_row-same o name n m start x none (found_at_line o find start x)) (more (most - 1) (following o.after)))
+    let more : (most : ℕ) (q : Progress) → rows o seen name most q (numbered (n + 1) (start + length x) xs) ≡ rows o seen name most q (numbered (m + 1) (start + length x) xs) =
+    λ most q. rows-unnumbered o seen name most (n + 1) (m + 1) (start + length x) q xs before none in
+    cond-same (nat_lt 0 most && is_selected o seen start x) _ _ _ _
+    (ap₂ (λ row rest. before_row o name p ++ row ++ rest) (selected_row-same o name n m start x none (found_at_line o seen start x)) (more (most - 1) (following o.after)))
     (cond-same (nat_lt 0 p.behind) _ _ _ _
     (ap₂ (λ row rest. row ++ rest) (near_row-same o name n m start x none) (more most (following (p.behind - 1))))
-    (ap (λ q. rows o find name most q (numbered (n + 1) (start + length x) xs)) (held-none o p a before)
+    (ap (λ q. rows o seen name most q (numbered (n + 1) (start + length x) xs)) (held-none o p a before)
     ∙ more most (left_out p)
-    ∙ ap (λ q. rows o find name most q (numbered (m + 1) (start + length x) xs)) (sym (held-none o p b before))))
+    ∙ ap (λ q. rows o seen name most q (numbered (m + 1) (start + length x) xs)) (sym (held-none o p b before))))
 
 lines-not_none : (end : ℕ) (text : List ℕ) → (text ≡ [] → ⊥) → lines end text ≡ [] → ⊥
 lines-not_none end [] some none = some refl
 lines-not_none end (b ∷ text) some none = lines-some end b text none
 
 -- lines were passed over, of which none is selected, and counted where numbers are put out
-pub rows-passed : (o : Options) (find : Find) (name : List ℕ) (end most number start count : ℕ) (text passed rest : List ℕ) (p : Progress)
-    → lines end text ≡ lines end passed ++ lines end rest → AreUnselected o find (lines end passed) → o.before ≡ 0 → p.behind ≡ 0 → (passed ≡ [] → ⊥)
+pub rows-passed : (o : Options) (seen : Seen) (name : List ℕ) (end most number start count : ℕ) (text passed rest : List ℕ) (p : Progress)
+    → lines end text ≡ lines end passed ++ lines end rest → AreUnselected o seen (lines end passed) → o.before ≡ 0 → p.behind ≡ 0 → (passed ≡ [] → ⊥)
     → count ≡ (if o.numbers then length (lines end passed) else 0)
-    → rows o find name most (left_out p) (numbered (number + count) (start + length passed) (lines end rest)) ≡ rows o find name most p (numbered number start (lines end text))
-rows-passed o find name end most number start count text passed rest p cut none before behind some is = by_numbers o.numbers refl
+    → rows o seen name most (left_out p) (numbered (number + count) (start + length passed) (lines end rest)) ≡ rows o seen name most p (numbered number start (lines end text))
+rows-passed o seen name end most number start count text passed rest p cut none before behind some is = by_numbers o.numbers refl
   where
-    counted : rows o find name most (left_out p) (numbered (number + length (lines end passed)) (start + length passed) (lines end rest)) ≡ rows o find name most p (numbered number start (lines end text))
+    counted : rows o seen name most (left_out p) (numbered (number + length (lines end passed)) (start + length passed) (lines end rest)) ≡ rows o seen name most p (numbered number start (lines end text))
     counted =
-        ap₂ (λ q s. rows o find name most q (numbered (number + length (lines end passed)) (start + s) (lines end rest)))
+        ap₂ (λ q s. rows o seen name most q (numbered (number + length (lines end passed)) (start + s) (lines end rest)))
         (sym (past-some (lines end passed) p (lines-not_none end passed some))) (sym (lines-size end passed))
-        ∙ rows-past o find name most number start p (lines end passed) (lines end rest) none before behind
-        ∙ ap (λ ls. rows o find name most p (numbered number start ls)) (sym cut)
+        ∙ rows-past o seen name most number start p (lines end passed) (lines end rest) none before behind
+        ∙ ap (λ ls. rows o seen name most p (numbered number start ls)) (sym cut)
 
     by_numbers : (numbers : Bool) → o.numbers ≡ numbers
-        → rows o find name most (left_out p) (numbered (number + count) (start + length passed) (lines end rest)) ≡ rows o find name most p (numbered number start (lines end text))
+        → rows o seen name most (left_out p) (numbered (number + count) (start + length passed) (lines end rest)) ≡ rows o seen name most p (numbered number start (lines end text))
     by_numbers true e =
         let same : count ≡ length (lines end passed) = is ∙ ap (λ b. if b then length (lines end passed) else 0) e in
-        ap (λ n. rows o find name most (left_out p) (numbered (number + n) (start + length passed) (lines end rest))) same ∙ counted
-    by_numbers false e = rows-unnumbered o find name most (number + count) (number + length (lines end passed)) (start + length passed) (left_out p) (lines end rest) before e ∙ counted
+        ap (λ n. rows o seen name most (left_out p) (numbered (number + n) (start + length passed) (lines end rest))) same ∙ counted
+    by_numbers false e = rows-unnumbered o seen name most (number + count) (number + length (lines end passed)) (start + length passed) (left_out p) (lines end rest) before e ∙ counted
 
 -- bytes that stand nowhere in a text are no part of it
 pub nowhere-part : (bytes text : List ℕ) → StandNowhere bytes text → (at : ℕ) → take (length bytes) (drop at text) ≢ bytes

@@ -5,3 +5,4 @@ pub mod Props
 pub mod Parts
 pub mod Finding
 pub mod Laws
+pub mod GivenUp

@@ -1,5 +1,5 @@
 -- What was put out, and what of it was written.
-use Rattle.std.specs.Prelude.{◌≡◌, ℕ, List, ◌++◌, take, Bool, is_some, Option, Some, None, ⊤}
+use Rattle.std.specs.Prelude.{◌≡◌, ℕ, List, ◌++◌, take, Bool, is_some, Option, Some, ⊤}
 use Rattle.std.specs.Io.KnownBytes.{Appends, append_known}
 use Rattle.esgrep_lines.specs.declared.output.Output.{Output}
 

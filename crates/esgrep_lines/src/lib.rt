@@ -11,7 +11,7 @@ mod parts;
 mod passing;
 mod searching;
 
-pub use finder::Finder;
+pub use finder::{FindError, Finder};
 pub use laws::touched_lines_have_parts;
 pub use output::{Output, Unwritten};
 pub use parts::Parts;

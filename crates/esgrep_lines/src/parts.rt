@@ -6,7 +6,7 @@ ghost use Rattle.esgrep_rows.specs.Found.{LieInOrder};
 ghost use Rattle.esgrep_lines.specs.Props.{LieInOrder-prop};
 ghost use Rattle.esgrep_lines.specs.Parts.{splits_ending, touched, told_in, has_part, is_between, parts_in, found_parts};
 
-use crate::finder::Finder;
+use crate::finder::{FindError, Finder};
 use esgrep_rows::Ending;
 use regress_front_core::Error;
 use regress_match::{Match, Range};
@@ -91,7 +91,9 @@ impl Finder for Parts<'_> {
 
     ghost finds = { FindsParts };
 
-    fn is_match(&self, start: usize, text: &str) -> Result<bool, Error> {
+    ghost gives_up = { λ _ _. ⊥ };
+
+    fn is_match(&self, start: usize, text: &str) -> Result<bool, FindError> {
         for found in self.near(start, text) {
             if self.part_in(found, start, text).is_some() {
                 return Ok(true);
@@ -100,7 +102,12 @@ impl Finder for Parts<'_> {
         Ok(false)
     }
 
-    fn find_into(&self, start: usize, text: &str, founds: &mut Vec<Match>) -> Result<(), Error> {
+    fn find_into(
+        &self,
+        start: usize,
+        text: &str,
+        founds: &mut Vec<Match>,
+    ) -> Result<(), FindError> {
         founds.clear();
         for found in self.near(start, text) {
             if let Some(part) = self.part_in(found, start, text) {

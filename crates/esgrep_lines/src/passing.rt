@@ -1,11 +1,12 @@
 //! Lines that need no search, since they lack bytes that each match holds.
 ghost use Rattle.std.specs.Prelude.{◌≡◌, ◌+◌, ◌≤◌, ◌++◌, ℕ, List, Option, length, vec_len, IfSome, if◌then◌else◌};
 ghost use Rattle.esgrep_rows.specs.Lines.{byte_of, lines, numbered};
-ghost use Rattle.esgrep_rows.specs.Found.{Find};
+ghost use Rattle.esgrep_rows.specs.Found.{Seen};
 ghost use Rattle.esgrep_rows.specs.Rows as row_words;
 ghost use Rattle.esgrep_rows.specs.Values.{progress_of};
 ghost use Rattle.esgrep_lines.specs.Needed.{AreNeeded, AreUnselected};
 ghost use Rattle.esgrep_lines.specs.Output.{count_from};
+ghost use Rattle.esgrep_lines.specs.GivenUp.{IsBehind};
 
 use crate::finder::Finder;
 use esgrep_rows::{Options, Progress, Rows, count_lines, lines_without};
@@ -16,7 +17,7 @@ pub(crate) fn needle_of<'f, F: Finder>(
     finder: &'f F,
     options: &Options,
 ) -> Option<memmem::Finder<'f>>
-    ensures { (template : Option (List ℕ)) → (find : Find) → F.finds finder.now template find → IfSome result (AreNeeded options.now find) }
+    ensures { (template : Option (List ℕ)) → (seen : Seen) → F.finds finder.now template seen.find → IfSome result (AreNeeded options.now seen) }
 {
     if options.invert {
         return None;
@@ -36,8 +37,8 @@ pub(crate) fn pass<'t>(
 ) -> (&'t str, &'t str)
     ensures lines { lines (byte_of options.now.ending) text.now ≡ lines (byte_of options.now.ending) result.0.now ++ lines (byte_of options.now.ending) result.1.now }
     ensures whole { text.now ≡ result.0.now ++ result.1.now }
-    ensures unselected { (find : Find) → IfSome needle.entry (λ bytes. AreNeeded options.now find bytes.now) →
-        AreUnselected options.now find (lines (byte_of options.now.ending) result.0.now) }
+    ensures unselected { (seen : Seen) → IfSome needle.entry (λ bytes. AreNeeded options.now seen bytes.now) →
+        AreUnselected options.now seen (lines (byte_of options.now.ending) result.0.now) }
 {
     match needle {
         Some(needle) if may_select => lines_without(text, needle, options.ending),
@@ -82,12 +83,13 @@ pub(crate) fn pass_over<'t>(
     ensures few { vec_len progress.new.held ≤ rows.entry.options.before }
     ensures size { result.bytes + length result.rest.now ≡ length text.now }
     ensures count { result.lines ≤ result.bytes }
-    ensures rows { (find : Find) → IfSome needle.entry (λ bytes. AreNeeded rows.entry.options find bytes.now) → (name : List ℕ) → (most number start : ℕ) →
-        row_words.rows rows.entry.options find name most (progress_of progress.new) (numbered (number + result.lines) (start + result.bytes) (lines (byte_of rows.entry.options.ending) result.rest.now))
-        ≡ row_words.rows rows.entry.options find name most (progress_of progress.old) (numbered number start (lines (byte_of rows.entry.options.ending) text.now)) }
-    ensures counted { (find : Find) → IfSome needle.entry (λ bytes. AreNeeded rows.entry.options find bytes.now) → (most start : ℕ) →
-        count_from rows.entry.options find most (start + result.bytes) (lines (byte_of rows.entry.options.ending) result.rest.now)
-        ≡ count_from rows.entry.options find most start (lines (byte_of rows.entry.options.ending) text.now) }
+    ensures lines { IsBehind rows.entry.options.ending text.now result.bytes result.rest.now }
+    ensures rows { (seen : Seen) → IfSome needle.entry (λ bytes. AreNeeded rows.entry.options seen bytes.now) → (name : List ℕ) → (most number start : ℕ) →
+        row_words.rows rows.entry.options seen name most (progress_of progress.new) (numbered (number + result.lines) (start + result.bytes) (lines (byte_of rows.entry.options.ending) result.rest.now))
+        ≡ row_words.rows rows.entry.options seen name most (progress_of progress.old) (numbered number start (lines (byte_of rows.entry.options.ending) text.now)) }
+    ensures counted { (seen : Seen) → IfSome needle.entry (λ bytes. AreNeeded rows.entry.options seen bytes.now) → (most start : ℕ) →
+        count_from rows.entry.options seen most (start + result.bytes) (lines (byte_of rows.entry.options.ending) result.rest.now)
+        ≡ count_from rows.entry.options seen most start (lines (byte_of rows.entry.options.ending) text.now) }
 {
     let options = &rows.options;
     if options.before > 0 || progress.behind > 0 {

@@ -1,17 +1,18 @@
 //! A search of one text.
-ghost use Rattle.std.specs.Prelude.{◌≡◌, ◌≢◌, ◌≤◌, ◌<◌, ◌^◌, ◌++◌, ◌∷◌, ◌&&◌, ◌||◌, ◌-◌, ◌+◌, ◌↔◌, ℕ, List, Option, [], true, false, nat_lt, length, map, vec_len, IfOk, OnOk, IsErrOf, IsOkUnless, string_bytes, if◌then◌else◌};
+ghost use Rattle.std.specs.Prelude.{◌≡◌, ◌≢◌, ◌≤◌, ◌<◌, ◌^◌, ◌++◌, ◌∷◌, ◌&&◌, ◌||◌, ◌-◌, ◌+◌, ◌↔◌, ℕ, List, Option, [], true, false, nat_lt, length, map, All, vec_len, IfOk, OnOk, IsErrOf, IsOkUnless, string_bytes, if◌then◌else◌};
 ghost use Rattle.std.specs.Io.KnownBytes.{Appends, append_known};
 ghost use Rattle.esgrep_rows.specs.Lines as line_words;
 ghost use Rattle.esgrep_rows.specs.Lines.{byte_of, lines, body};
-ghost use Rattle.esgrep_rows.specs.Found.{Found, Find, found_of, LieInOrder};
+ghost use Rattle.esgrep_rows.specs.Found.{Found, Find, Seen, but_for, found_of, LieInOrder};
 ghost use Rattle.esgrep_rows.specs.Rows as row_words;
 ghost use Rattle.esgrep_rows.specs.Rows.{selected_row, selected_lines, found_at_line};
 ghost use Rattle.esgrep_rows.specs.Views.{puts_matches, template_text};
 ghost use Rattle.esgrep_rows.specs.Values.{line_of, progress_of};
 ghost use Rattle.esgrep_lines.specs.Output.{output_of, summary, summary_of, all_rows, told_count, count_of, needed, count_from};
 ghost use Rattle.esgrep_lines.specs.Putting.{has_failed, written, put_out, AppendsFront, IsBeginning};
+ghost use Rattle.esgrep_lines.specs.GivenUp.{AreGivenUp, Notes, TellsAt};
 
-use crate::finder::Finder;
+use crate::finder::{FindError, Finder};
 use crate::output::{Output, Unwritten};
 use crate::passing::{needle_of, pass, pass_over};
 use esgrep_rows::{Line, Mode, Options, Progress, Rows, Shown, body_of, first_line};
@@ -72,12 +73,13 @@ impl From<Unwritten> for SearchError {
 }
 
 /// Searches a text, puts out what the options say, and answers how many lines are selected; where only that there is one matters,
-/// at most one.
+/// at most one. A line whose search was given up is not selected; the offsets of such lines are put into `given_up`, in the place
+/// of what was there.
 ///
 /// Asks that no write has failed. Errs where one fails, and where memory is refused; then a beginning of this was put out.
 ///
 /// ```rust
-/// let count = search(alloc, &patterns, &Shown::itself(), &options, "notes.txt", text, &mut output)?;
+/// let count = search(alloc, &patterns, &Shown::itself(), &options, "notes.txt", text, &mut given_up, &mut output)?;
 /// ```
 pub fn search<F: Finder, W: Write + Drop>(
     alloc: Global,
@@ -86,26 +88,43 @@ pub fn search<F: Finder, W: Write + Drop>(
     options: &Options,
     name: &str,
     text: &str,
+    given_up: &mut Vec<usize>,
     output: &mut Output<W>,
 ) -> Result<usize, SearchError>
     requires { has_failed output.old ≡ false }
     ensures put { (find : Find) → F.finds finder.now (template_text shown.now) find →
-        OnOk result (Appends (put_out W.contents output.old) (put_out W.contents output.new) (output_of options.now options.now.mode find name.now text.now)) }
+        OnOk result (Appends (put_out W.contents output.old) (put_out W.contents output.new) (output_of options.now options.now.mode (but_for given_up.new.items find) name.now text.now)) }
     ensures count { (find : Find) → F.finds finder.now (template_text shown.now) find →
-        IfOk result (λ count. count ≡ count_of options.now find text.now) }
+        IfOk result (λ count. count ≡ count_of options.now (but_for given_up.new.items find) text.now) }
     ensures refused { (find : Find) → F.finds finder.now (template_text shown.now) find → IsErrOf result SearchError.OutOfMemory →
-        AppendsFront (put_out W.contents output.old) (put_out W.contents output.new) (output_of options.now options.now.mode find name.now text.now) }
+        AppendsFront (put_out W.contents output.old) (put_out W.contents output.new) (output_of options.now options.now.mode (but_for given_up.new.items find) name.now text.now) }
     ensures unwritten { (find : Find) → F.finds finder.now (template_text shown.now) find → IsErrOf result SearchError.Write →
-        IsBeginning (written W.contents output.new) (append_known (put_out W.contents output.old) (output_of options.now options.now.mode find name.now text.now)) }
+        IsBeginning (written W.contents output.new) (append_known (put_out W.contents output.old) (output_of options.now options.now.mode (but_for given_up.new.items find) name.now text.now)) }
+    ensures given { AreGivenUp (F.gives_up finder.now) options.now.ending text.now given_up.new.items }
     ensures failure { (has_failed output.new ≡ true) ↔ IsErrOf result SearchError.Write }
 {
+    given_up.clear();
     let rows = Rows {
         options: *options,
         name,
     };
     match options.mode {
-        Mode::Lines | Mode::Matches => put_rows(alloc, finder, shown, rows, text, output),
-        _ => put_summary(alloc, finder, rows, text, output),
+        Mode::Lines | Mode::Matches => put_rows(alloc, finder, shown, rows, text, given_up, output),
+        _ => put_summary(alloc, finder, rows, text, given_up, output),
+    }
+}
+
+/// Notes a line whose search was given up, which is not selected. Another error stays one.
+fn give_up(error: FindError, start: usize, given_up: &mut Vec<usize>) -> Result<bool, Error>
+    ensures noted { Notes (error ≡ FindError.GivenUp) start given_up.old.items given_up.new.items }
+    ensures unselected { IfOk result (λ selected. (selected ≡ false) × (given_up.new.items ≡ given_up.old.items ++ start ∷ [])) }
+{
+    match error {
+        FindError::OutOfMemory => Err(Error::OutOfMemory),
+        FindError::GivenUp => {
+            given_up.push(start)?;
+            Ok(false)
+        }
     }
 }
 
@@ -115,12 +134,17 @@ fn is_selected<F: Finder>(
     options: &Options,
     start: usize,
     line: &str,
+    given_up: &mut Vec<usize>,
 ) -> Result<bool, Error>
-    ensures { (template : Option (List ℕ)) → (find : Find) → F.finds finder.now template find →
-        IfOk result (λ selected. selected ≡ row_words.is_selected options.now find start line.now) }
+    requires low { All (λ at. at < start) given_up.old.items }
+    ensures noted { Notes (F.gives_up finder.now (body options.now.ending line.now)) start given_up.old.items given_up.new.items }
+    ensures selected { (template : Option (List ℕ)) → (seen : Seen) → F.finds finder.now template seen.find → TellsAt seen given_up.new.items start →
+        IfOk result (λ selected. selected ≡ row_words.is_selected options.now seen start line.now) }
 {
-    let is_match = finder.is_match(start, body_of(line, options.ending))?;
-    Ok(is_match != options.invert)
+    match finder.is_match(start, body_of(line, options.ending)) {
+        Ok(is_match) => Ok(is_match != options.invert),
+        Err(error) => give_up(error, start, given_up),
+    }
 }
 
 /// How many lines of a text are selected, counted up to `most`.
@@ -129,9 +153,12 @@ fn count_selected<F: Finder>(
     options: &Options,
     text: &str,
     most: usize,
+    given_up: &mut Vec<usize>,
 ) -> Result<usize, Error>
-    ensures { (template : Option (List ℕ)) → (find : Find) → F.finds finder.now template find →
-        IfOk result (λ count. count ≡ count_from options.now find most 0 (lines (byte_of options.now.ending) text.now)) }
+    requires none { given_up.old.items ≡ [] }
+    ensures count { (template : Option (List ℕ)) → (find : Find) → F.finds finder.now template find →
+        IfOk result (λ count. count ≡ count_from options.now (but_for given_up.new.items find) most 0 (lines (byte_of options.now.ending) text.now)) }
+    ensures given { AreGivenUp (F.gives_up finder.now) options.now.ending text.now given_up.new.items }
 {
     let literal = needle_of(finder, options);
     let needle = literal.as_ref();
@@ -140,7 +167,7 @@ fn count_selected<F: Finder>(
     let mut rest = text;
     while count < most && !rest.is_empty() {
         let (line, behind) = first_line(rest, options.ending);
-        let selected = is_selected(finder, options, start, line)?;
+        let selected = is_selected(finder, options, start, line, given_up)?;
         count += usize::from(selected);
         let (passed, further) = pass(needle, options, count < most, behind);
         start += line.len() + passed.len();
@@ -177,19 +204,23 @@ fn put_summary<F: Finder, W: Write + Drop>(
     finder: &F,
     rows: Rows<'_>,
     text: &str,
+    given_up: &mut Vec<usize>,
     output: &mut Output<W>,
 ) -> Result<usize, SearchError>
-    requires { has_failed output.old ≡ false }
+    requires sound { has_failed output.old ≡ false }
+    requires none { given_up.old.items ≡ [] }
     ensures put { (template : Option (List ℕ)) → (find : Find) → F.finds finder.now template find →
-        OnOk result (Appends (put_out W.contents output.old) (put_out W.contents output.new) (summary_of rows.entry.options find rows.entry.name.now text.now)) }
+        OnOk result (Appends (put_out W.contents output.old) (put_out W.contents output.new) (summary_of rows.entry.options (but_for given_up.new.items find) rows.entry.name.now text.now)) }
     ensures count { (template : Option (List ℕ)) → (find : Find) → F.finds finder.now template find →
-        IfOk result (λ count. count ≡ count_of rows.entry.options find text.now) }
+        IfOk result (λ count. count ≡ count_of rows.entry.options (but_for given_up.new.items find) text.now) }
     ensures refused { IsErrOf result SearchError.OutOfMemory → output.new ≡ output.old }
     ensures unwritten { (template : Option (List ℕ)) → (find : Find) → F.finds finder.now template find → IsErrOf result SearchError.Write →
-        IsBeginning (written W.contents output.new) (append_known (put_out W.contents output.old) (summary_of rows.entry.options find rows.entry.name.now text.now)) }
+        IsBeginning (written W.contents output.new) (append_known (put_out W.contents output.old) (summary_of rows.entry.options (but_for given_up.new.items find) rows.entry.name.now text.now)) }
+    ensures given { AreGivenUp (F.gives_up finder.now) rows.entry.options.ending text.now given_up.new.items }
     ensures failure { (has_failed output.new ≡ true) ↔ IsErrOf result SearchError.Write }
 {
-    let count = count_selected(finder, &rows.options, text, needed(&rows.options))?;
+    let most = needed(&rows.options);
+    let count = count_selected(finder, &rows.options, text, most, given_up)?;
     let mut row = String::new(alloc);
     push_summary(&mut row, rows, count)?;
     output.put(row.as_bytes())?;
@@ -209,20 +240,25 @@ fn select<F: Finder>(
     options: &Options,
     line: Line<'_>,
     founds: &mut Vec<Match>,
+    given_up: &mut Vec<usize>,
 ) -> Result<bool, Error>
-    ensures selected { (template : Option (List ℕ)) → (find : Find) → F.finds finder.now template find →
-        IfOk result (λ selected. selected ≡ row_words.is_selected options.now find line.entry.start line.entry.text.now) }
+    requires low { All (λ at. at < line.start) given_up.old.items }
+    ensures noted { Notes (F.gives_up finder.now (body options.now.ending line.entry.text.now)) line.entry.start given_up.old.items given_up.new.items }
+    ensures selected { (template : Option (List ℕ)) → (seen : Seen) → F.finds finder.now template seen.find → TellsAt seen given_up.new.items line.entry.start →
+        IfOk result (λ selected. selected ≡ row_words.is_selected options.now seen line.entry.start line.entry.text.now) }
     ensures found { (puts_matches options.now.mode || options.now.rewrites) ≡ true →
-        (template : Option (List ℕ)) → (find : Find) → F.finds finder.now template find →
-        OnOk result (map (found_of template (body options.now.ending line.entry.text.now)) founds.new.items ≡ found_at_line options.now find line.entry.start line.entry.text.now) }
+        (template : Option (List ℕ)) → (seen : Seen) → F.finds finder.now template seen.find → IfOk result (λ selected. selected ≡ true →
+        map (found_of template (body options.now.ending line.entry.text.now)) founds.new.items ≡ found_at_line options.now seen line.entry.start line.entry.text.now) }
     ensures order { (puts_matches options.now.mode || options.now.rewrites) ≡ true →
-        OnOk result (LieInOrder (body options.now.ending line.entry.text.now) 0 founds.new.items) }
+        IfOk result (λ selected. selected ≡ true → LieInOrder (body options.now.ending line.entry.text.now) 0 founds.new.items) }
 {
     if !puts_founds(options) {
-        return is_selected(finder, options, line.start, line.text);
+        return is_selected(finder, options, line.start, line.text, given_up);
     }
-    finder.find_into(line.start, body_of(line.text, options.ending), founds)?;
-    Ok(founds.is_empty() == options.invert)
+    match finder.find_into(line.start, body_of(line.text, options.ending), founds) {
+        Ok(()) => Ok(founds.is_empty() == options.invert),
+        Err(error) => give_up(error, line.start, given_up),
+    }
 }
 
 /// Appends what is put out for a selected line, in which these matches were found where that depends on them.
@@ -257,18 +293,21 @@ fn push_step<'t, F: Finder>(
     line: Line<'t>,
     progress: &mut Progress<'t>,
     founds: &mut Vec<Match>,
+    given_up: &mut Vec<usize>,
 ) -> Result<bool, Error>
     requires fits { line.start + length line.text.now < 2 ^ 64 }
+    requires low { All (λ at. at < line.start) given_up.old.items }
     requires few { vec_len progress.old.held ≤ rows.options.before }
+    ensures noted { Notes (F.gives_up finder.now (body rows.entry.options.ending line.entry.text.now)) line.entry.start given_up.old.items given_up.new.items }
     ensures few { OnOk result (vec_len progress.new.held ≤ rows.entry.options.before) }
-    ensures selected { (find : Find) → F.finds finder.now (template_text shown.now) find →
-        IfOk result (λ selected. selected ≡ (may_select && row_words.is_selected rows.entry.options find line.entry.start line.entry.text.now)) }
-    ensures pushed { (find : Find) → F.finds finder.now (template_text shown.now) find → (most : ℕ) → (more : List line_words.Line) → nat_lt 0 most ≡ may_select →
-        IfOk result (λ selected. string_bytes row.new ++ row_words.rows rows.entry.options find rows.entry.name.now (if selected then most - 1 else most) (progress_of progress.new) more
-        ≡ string_bytes row.old ++ row_words.rows rows.entry.options find rows.entry.name.now most (progress_of progress.old) (line_of line.entry ∷ more)) }
+    ensures selected { (seen : Seen) → F.finds finder.now (template_text shown.now) seen.find → TellsAt seen given_up.new.items line.entry.start →
+        IfOk result (λ selected. selected ≡ (may_select && row_words.is_selected rows.entry.options seen line.entry.start line.entry.text.now)) }
+    ensures pushed { (seen : Seen) → F.finds finder.now (template_text shown.now) seen.find → TellsAt seen given_up.new.items line.entry.start → (most : ℕ) → (more : List line_words.Line) → nat_lt 0 most ≡ may_select →
+        IfOk result (λ selected. string_bytes row.new ++ row_words.rows rows.entry.options seen rows.entry.name.now (if selected then most - 1 else most) (progress_of progress.new) more
+        ≡ string_bytes row.old ++ row_words.rows rows.entry.options seen rows.entry.name.now most (progress_of progress.old) (line_of line.entry ∷ more)) }
 {
     let options = &rows.options;
-    if may_select && select(finder, options, line, founds)? {
+    if may_select && select(finder, options, line, founds, given_up)? {
         rows.push_before(row, progress)?;
         push_selected(shown, rows, row, line, founds)?;
         progress.follow(options.after);
@@ -290,17 +329,20 @@ fn put_rows<F: Finder, W: Write + Drop>(
     shown: &Shown<'_>,
     rows: Rows<'_>,
     text: &str,
+    given_up: &mut Vec<usize>,
     output: &mut Output<W>,
 ) -> Result<usize, SearchError>
-    requires { has_failed output.old ≡ false }
+    requires sound { has_failed output.old ≡ false }
+    requires none { given_up.old.items ≡ [] }
     ensures put { (find : Find) → F.finds finder.now (template_text shown.now) find →
-        OnOk result (Appends (put_out W.contents output.old) (put_out W.contents output.new) (all_rows rows.entry.options find rows.entry.name.now text.now)) }
+        OnOk result (Appends (put_out W.contents output.old) (put_out W.contents output.new) (all_rows rows.entry.options (but_for given_up.new.items find) rows.entry.name.now text.now)) }
     ensures count { (find : Find) → F.finds finder.now (template_text shown.now) find →
-        IfOk result (λ count. count ≡ length (selected_lines rows.entry.options find text.now)) }
+        IfOk result (λ count. count ≡ length (selected_lines rows.entry.options (but_for given_up.new.items find) text.now)) }
     ensures refused { (find : Find) → F.finds finder.now (template_text shown.now) find → IsErrOf result SearchError.OutOfMemory →
-        AppendsFront (put_out W.contents output.old) (put_out W.contents output.new) (all_rows rows.entry.options find rows.entry.name.now text.now) }
+        AppendsFront (put_out W.contents output.old) (put_out W.contents output.new) (all_rows rows.entry.options (but_for given_up.new.items find) rows.entry.name.now text.now) }
     ensures unwritten { (find : Find) → F.finds finder.now (template_text shown.now) find → IsErrOf result SearchError.Write →
-        IsBeginning (written W.contents output.new) (append_known (put_out W.contents output.old) (all_rows rows.entry.options find rows.entry.name.now text.now)) }
+        IsBeginning (written W.contents output.new) (append_known (put_out W.contents output.old) (all_rows rows.entry.options (but_for given_up.new.items find) rows.entry.name.now text.now)) }
+    ensures given { AreGivenUp (F.gives_up finder.now) rows.entry.options.ending text.now given_up.new.items }
     ensures failure { (has_failed output.new ≡ true) ↔ IsErrOf result SearchError.Write }
 {
     let options = rows.options;
@@ -330,6 +372,7 @@ fn put_rows<F: Finder, W: Write + Drop>(
             line,
             &mut progress,
             &mut founds,
+            given_up,
         )?;
         output.put(row.as_bytes())?;
         count += usize::from(selected);

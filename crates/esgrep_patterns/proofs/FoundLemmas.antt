@@ -6,7 +6,6 @@ use Rattle.regress_meaning.specs.Pattern.{Pattern}
 use Rattle.regress_meaning.specs.Flags.{Options}
 use Rattle.regress_meaning.specs.Matches.{match_list}
 use Rattle.regress_meaning.specs.Offsets.{of_utf8, told}
-use Rattle.regress_front_core.specs.declared.error.Error.{Error}
 use Rattle.regress.specs.Literals.{IsNowhereIn}
 use Rattle.esgrep_rows.specs.Lines.{StandNowhere}
 use Rattle.esgrep_lines.proofs.PassingLemmas.{nowhere-part}
@@ -28,13 +27,13 @@ found-some t o p template names text all b is found = (
   λ some. found.1 (λ none. some (is ∙ ap (λ ms. map (found_at template names text) (map (told (of_utf8 text)) ms)) none)),
 )
 
-pub found-ok : (r : Result Bool Error) (t : Table) (o : Options) (p : Pattern) (template : Option (List ℕ)) (names : List (List ℕ)) (text : List ℕ) (all : List Found)
+pub found-ok : {E : Type 0} (r : Result Bool E) (t : Table) (o : Options) (p : Pattern) (template : Option (List ℕ)) (names : List (List ℕ)) (text : List ℕ) (all : List Found)
     → all ≡ found_in t o p template names text → IfOk r (λ b. IsTrue b ↔ (match_list t o p (chars text) 0 ≢ [])) → IfOk r (λ b. IsTrue b ↔ (all ≢ []))
 found-ok (Ok b) t o p template names text all is found = found-some t o p template names text all b is found
 found-ok (Err e) t o p template names text all is found = tt
 
 -- what is found is what is to be found
-pub found-all_ok : {T : Type 0} (r : Result T Error) (founds one all : List Found) → all ≡ one → OnOk r (founds ≡ one) → OnOk r (founds ≡ all)
+pub found-all_ok : {T E : Type 0} (r : Result T E) (founds one all : List Found) → all ≡ one → OnOk r (founds ≡ one) → OnOk r (founds ≡ all)
 found-all_ok (Ok x) founds one all is found = found ∙ sym is
 found-all_ok (Err e) founds one all is found = tt
 

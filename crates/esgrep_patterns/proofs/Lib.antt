@@ -2,3 +2,4 @@ pub mod OrderLemmas
 pub mod FoundLemmas
 pub mod HitLemmas
 pub mod SeveralLemmas
+pub mod BoundLemmas

@@ -9,7 +9,6 @@ use Rattle.regress_meaning.proofs.MatchLemmas.{matches_end, matches_go}
 use Rattle.regress_meaning.specs.Offsets.{of_utf8, offset, Begins}
 use Rattle.regress_front_bytes.proofs.TextLemmas.{offset_of_end}
 use Rattle.regress_engine_input.proofs.Utf8Texts.{utf8_rise}
-use Rattle.regress_front_core.specs.declared.error.Error.{Error}
 use Rattle.regress_match.specs.declared.found.Match.{Match}
 use Rattle.regress_match.specs.Views.{item_of}
 use Rattle.regress.specs.Coming.{IsStart}
@@ -199,7 +198,7 @@ list-none [] not = refl
 list-none (x ∷ xs) not = absurd (not (λ none. cc none))
 
 -- of a test that may be refused
-pub several-ok : (r : Result Bool Error) (ss : List Sought) (template : Option (List ℕ)) (text : List ℕ) (all : List Found) → all ≡ found_of_several ss template text
+pub several-ok : {E : Type 0} (r : Result Bool E) (ss : List Sought) (template : Option (List ℕ)) (text : List ℕ) (all : List Found) → all ≡ found_of_several ss template text
     → IfOk r (λ b. IsTrue b ↔ (leftmost (chars text) ss 0 ≢ None)) → IfOk r (λ b. IsTrue b ↔ (all ≢ []))
 several-ok (Ok b) ss template text all is found = rw is (several-some ss template text b found)
 several-ok (Err e) ss template text all is found = tt

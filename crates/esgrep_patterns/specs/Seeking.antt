@@ -1,5 +1,5 @@
 -- What a search for patterns finds.
-use Rattle.std.specs.Prelude.{◌≡◌, ◌≤◌, ℕ, zero, suc, ◌+◌, List, [], ◌∷◌, length, nat_lt, if◌then◌else◌, map, option_map, chars, Option, Some, None}
+use Rattle.std.specs.Prelude.{◌≡◌, ◌≤◌, ℕ, zero, suc, ◌+◌, List, [], ◌∷◌, length, nat_lt, if◌then◌else◌, map, option_map, chars, Any, Option, Some, None}
 use Rattle.regress_meaning.specs.Table.{Table}
 use Rattle.regress_meaning.specs.Pattern.{Pattern}
 use Rattle.regress_meaning.specs.Flags.{Options}
@@ -11,6 +11,9 @@ use Rattle.regress_match.specs.GroupViews.{names_of_match}
 use Rattle.regress_match.specs.TextRanges.{LiesInText}
 use Rattle.regress.specs.declared.api.Regex.{Regex}
 use Rattle.regress.specs.Standing.{StandsFor, names_of_regex}
+use Rattle.regress_engine_input.specs.Views.{utf8}
+use Rattle.regress_programs.specs.declared.slots.Anchored.TheVariants.{No}
+use Rattle.regress_bounded.specs.Stopping.{seen_by, TakesAll}
 use Rattle.esgrep_rows.specs.Found.{Found, Find, found_at}
 use Rattle.esgrep_patterns.specs.declared.patterns.Patterns.{Patterns}
 
@@ -103,6 +106,20 @@ SeekAll regexes ss = ⊥
 -- what is searched for
 abbrev pub regexes_of : Patterns → List Regex
 regexes_of patterns = patterns.regexes.items
+
+-- how many steps each search may take, if there is a bound
+abbrev pub steps_of : Patterns → Option ℕ
+steps_of patterns = patterns.steps
+
+-- From some offset of a text the runs of a search for a regex take as many steps as it may take, or more.
+abbrev pub IsTooLong : Option ℕ → List ℕ → Regex → Type 0
+IsTooLong None text regex = ⊥
+IsTooLong (Some steps) text regex =
+    let program = regex.compiled.byte_program in (at : ℕ) × TakesAll No program (seen_by program utf8 text) at steps
+
+-- a search for one of the patterns in a text is too long
+abbrev pub GivesUp : Patterns → List ℕ → Type 0
+GivesUp patterns text = Any (IsTooLong (steps_of patterns) text) (regexes_of patterns)
 
 -- Patterns find this in each text: what is found of those that their regexes stand for, with what is shown of a match.
 pub record Finds (patterns : Patterns) (template : Option (List ℕ)) (find : Find) : Type 0 where

@@ -1,17 +1,16 @@
 //! Matches of patterns that cross lines.
-ghost use Rattle.std.specs.Prelude.{ℕ, List, Option, IfOk, IsOkUnless};
+ghost use Rattle.std.specs.Prelude.{ℕ, List, Option, IfOk, IsErrOf};
 ghost use Rattle.esgrep_lines.specs.Parts.{found_parts};
 ghost use Rattle.esgrep_lines.specs.Finding.{FindsParts};
-ghost use Rattle.esgrep_patterns.specs.Seeking.{Sought, regexes_of, items_of_all, SeekAll};
+ghost use Rattle.esgrep_patterns.specs.Seeking.{Sought, regexes_of, items_of_all, SeekAll, GivesUp};
 
 use crate::patterns::Patterns;
-use esgrep_lines::{Finder, Parts};
+use esgrep_lines::{FindError, Finder, Parts};
 use esgrep_rows::Ending;
-use regress::Error;
 use std::alloc::Global;
 
 /// The matches of patterns in a text of many lines, which end as `ending` says, as what is found in these: of each match the
-/// parts that lie in them. Errs with `OutOfMemory` alone.
+/// parts that lie in them. Errs where memory is refused, and where the search of the text is given up.
 ///
 /// ```rust
 /// let parts = parts_of(alloc, &patterns, "one\ntwo\n", Ending::Newline)?;
@@ -21,10 +20,10 @@ pub fn parts_of<'t>(
     patterns: &Patterns,
     text: &'t str,
     ending: Ending,
-) -> Result<Parts<'t>, Error>
+) -> Result<Parts<'t>, FindError>
     ensures found { (ss : List Sought) → SeekAll (regexes_of patterns.now) ss → (template : Option (List ℕ)) →
         IfOk result (λ parts. FindsParts parts template (found_parts ending text.now (items_of_all ss text.now) template)) }
-    ensures refused { IsOkUnless result Error.OutOfMemory }
+    ensures given { IsErrOf result FindError.GivenUp → GivesUp patterns.now text.now }
 {
     let mut founds = Vec::new(alloc);
     patterns.find_into(0, text, &mut founds)?;

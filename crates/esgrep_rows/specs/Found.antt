@@ -1,5 +1,6 @@
 -- What is found in a text, and what is shown of it.
-use Rattle.std.specs.Prelude.{ℕ, ◌≤◌, List, [], ◌∷◌, map, slice_range, Option, Some, None}
+use Rattle.std.specs.Prelude.{ℕ, ◌≤◌, ◌==◌, Bool, List, [], ◌∷◌, map, slice_range, Option, Some, None}
+use Rattle.std.specs.List.{list_any}
 use Rattle.regress_meaning.specs.Matches.{Item}
 use Rattle.regress_replacing.specs.Replacing.{replaced}
 use Rattle.regress_replacing.specs.Substitution.{substitution}
@@ -16,6 +17,19 @@ pub record Found : Type 0 where
 -- what is found in each text that stands at an offset of a whole one
 abbrev pub Find : Type 0
 Find = ℕ → List ℕ → List Found
+
+-- What a search tells of the lines of a text: what is found in each, and of each offset whether the search of the line there was given up.
+pub record Seen : Type 0 where
+  pub find : Find
+  pub is_given_up : ℕ → Bool
+
+-- an offset is one of these
+abbrev pub is_among : List ℕ → ℕ → Bool
+is_among starts at = list_any (λ start. start == at) starts
+
+-- what a search tells that was given up for the lines at these offsets, and found this in all others
+abbrev pub but_for : List ℕ → Find → Seen
+but_for starts find = record { find = find; is_given_up = is_among starts }
 
 -- a text with what is shown in the place of each match
 abbrev pub rewritten : List ℕ → List Found → List ℕ

@@ -2,7 +2,7 @@
 use Rattle.std.specs.Prelude.{ℕ, ◌+◌, ◌-◌, ◌&&◌, ◌||◌, Bool, true, false, not, nat_lt, List, [], ◌∷◌, ◌++◌, length, drop, flat_map, filter, take, decimal, codes, if◌then◌else◌}
 use Rattle.esgrep_rows.specs.declared.options.Options.{Options}
 use Rattle.esgrep_rows.specs.Lines.{Line, body, tail, byte_of, numbered_lines}
-use Rattle.esgrep_rows.specs.Found.{Found, Find, rewritten}
+use Rattle.esgrep_rows.specs.Found.{Found, Seen, rewritten}
 use Rattle.esgrep_rows.specs.Views.{puts_matches}
 
 -- a text between the codes that a terminal shows it in a colour by, where colours are wanted
@@ -28,17 +28,17 @@ front o mark name number offset =
     ++ (if o.offsets then number_field o mark offset else [])
 
 -- what is found in the line that begins at an offset
-abbrev pub found_at_line : Options → Find → ℕ → List ℕ → List Found
-found_at_line o find start line = find start (body o.ending line)
+abbrev pub found_at_line : Options → Seen → ℕ → List ℕ → List Found
+found_at_line o seen start line = seen.find start (body o.ending line)
 
--- A line is selected: it has a match, or by `-v` none.
-abbrev pub is_selected : Options → Find → ℕ → List ℕ → Bool
-is_selected o find start line =
-    let has_match = nat_lt 0 (length (found_at_line o find start line)) in if o.invert then not has_match else has_match
+-- A line is selected: it has a match, or by `-v` none. One whose search was given up is not.
+abbrev pub is_selected : Options → Seen → ℕ → List ℕ → Bool
+is_selected o seen start line =
+    let has_match = nat_lt 0 (length (found_at_line o seen start line)) in not (seen.is_given_up start) && (if o.invert then not has_match else has_match)
 
 -- The lines of a text that are selected, at most so many as are wanted.
-abbrev pub selected_lines : Options → Find → List ℕ → List Line
-selected_lines o find text = take o.most (filter (λ line. is_selected o find line.start line.bytes) (numbered_lines o.ending text))
+abbrev pub selected_lines : Options → Seen → List ℕ → List Line
+selected_lines o seen text = take o.most (filter (λ line. is_selected o seen line.start line.bytes) (numbered_lines o.ending text))
 
 -- the row of a line, with this text in the place of its own
 abbrev pub line_row : Options → List ℕ → List ℕ → Line → List ℕ → List ℕ
@@ -94,13 +94,13 @@ abbrev pub left_out : Progress → Progress
 left_out p = record { behind = 0; held = []; is_begun = p.is_begun; has_gap = true }
 
 -- The rows of lines from where they are on, of which so many may still be selected.
-unfoldable pub rows : Options → Find → List ℕ → ℕ → Progress → List Line → List ℕ
-rows o find name most p [] = []
-rows o find name most p (line ∷ lines) =
-    if nat_lt 0 most && is_selected o find line.start line.bytes
-    then before_row o name p ++ selected_row o name line (found_at_line o find line.start line.bytes) ++ rows o find name (most - 1) (following o.after) lines
-    else if nat_lt 0 p.behind then near_row o name line ++ rows o find name most (following (p.behind - 1)) lines
-    else rows o find name most (held_back o.before p line) lines
+unfoldable pub rows : Options → Seen → List ℕ → ℕ → Progress → List Line → List ℕ
+rows o seen name most p [] = []
+rows o seen name most p (line ∷ lines) =
+    if nat_lt 0 most && is_selected o seen line.start line.bytes
+    then before_row o name p ++ selected_row o name line (found_at_line o seen line.start line.bytes) ++ rows o seen name (most - 1) (following o.after) lines
+    else if nat_lt 0 p.behind then near_row o name line ++ rows o seen name most (following (p.behind - 1)) lines
+    else rows o seen name most (held_back o.before p line) lines
 
 -- the name of what is searched, on a line of its own
 abbrev pub name_row : Options → List ℕ → List ℕ

@@ -4,10 +4,11 @@ use Rattle.esgrep_rows.specs.Lines.{byte_of, lines, numbered}
 use Rattle.esgrep_rows.specs.Rows.{Progress, rows}
 use Rattle.esgrep_rows.specs.Values.{progress_of}
 use Rattle.esgrep_lines.proofs.PassingLemmas.{rows-passed, count-passed}
+use Rattle.esgrep_lines.proofs.GivenUpLemmas.{behind-cut}
 use Rattle.esgrep_lines.proofs.passing.pass_over.Goals as goal
 
 pub returns-clause-rows : goal.returns-clause-rows
-returns-clause-rows c = λ find needed name most number start.
+returns-clause-rows c = λ seen needed name most number start.
     let o = c.args.rows.options in
     let end = byte_of o.ending in
     let passed = c.pass.result.0.now in
@@ -16,11 +17,14 @@ returns-clause-rows c = λ find needed name most number start.
     let behind : c.args.progress.now.behind ≡ 0 = omega (arith, c.if-progress-gt0.false) in
     let some : passed ≡ [] → ⊥ = λ none.
     let bad : false ≡ true = sym c.if-is_empty.false ∙ c.is_empty.ensures ∙ ap (λ t. length t == 0) none in absurd (cc bad) in
-    ap (λ (q : Progress). rows o find name most q (numbered (number + c.told_lines.result) (start + length passed) (lines end rest))) c.leave_out.ensures.value
-    ∙ rows-passed o find name end most number start c.told_lines.result c.args.text.now passed rest (progress_of c.args.progress.now)
-    c.pass.ensures.lines (c.pass.ensures.unselected find needed) before behind some c.told_lines.ensures.value
+    ap (λ (q : Progress). rows o seen name most q (numbered (number + c.told_lines.result) (start + length passed) (lines end rest))) c.leave_out.ensures.value
+    ∙ rows-passed o seen name end most number start c.told_lines.result c.args.text.now passed rest (progress_of c.args.progress.now)
+    c.pass.ensures.lines (c.pass.ensures.unselected seen needed) before behind some c.told_lines.ensures.value
 
 pub returns-clause-counted : goal.returns-clause-counted
-returns-clause-counted c = λ find needed most start.
+returns-clause-counted c = λ seen needed most start.
     let o = c.args.rows.options in
-    count-passed o find (byte_of o.ending) most start c.args.text.now c.pass.result.0.now c.pass.result.1.now c.pass.ensures.lines (c.pass.ensures.unselected find needed)
+    count-passed o seen (byte_of o.ending) most start c.args.text.now c.pass.result.0.now c.pass.result.1.now c.pass.ensures.lines (c.pass.ensures.unselected seen needed)
+
+pub returns-clause-lines : goal.returns-clause-lines
+returns-clause-lines c = behind-cut c.args.rows.options.ending c.args.text.now c.pass.result.0.now c.pass.result.1.now c.pass.ensures.lines

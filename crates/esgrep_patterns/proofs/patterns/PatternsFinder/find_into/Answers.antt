@@ -2,7 +2,8 @@ use Rattle.std.proofs.Common.{arith, map, sym, ap, ◌∙◌}
 use Rattle.esgrep_rows.specs.Found.{found_of}
 use Rattle.esgrep_patterns.specs.Seeking.{found_in, found_of_several}
 use Rattle.esgrep_patterns.proofs.FoundLemmas.{found-all_ok}
-use Rattle.esgrep_patterns.proofs.SeveralLemmas.{found-alone, several}
+use Rattle.esgrep_patterns.proofs.SeveralLemmas.{found-alone}
+use Rattle.esgrep_patterns.proofs.BoundLemmas.{all-several}
 use Rattle.esgrep_patterns.proofs.patterns.PatternsFinder.find_into.Goals as goal
 
 pub returns-then-len-eq1-clause-found : goal.returns-then-len-eq1-clause-found
@@ -17,6 +18,5 @@ returns-then-len-eq1-clause-found c = λ template find finds.
 pub returns-clause-found : goal.returns-clause-found
 returns-clause-found c = λ template find finds.
     let text = c.args.text.now in
-    let many = several c.args.self.now.regexes.items finds.sought finds.seek (λ one. omega (arith, c.if-len-eq1.false, c.len.ensures, one)) template text in
     found-all_ok c.find_several_into.result (map (found_of template text) c.find_several_into.new.founds.items) (found_of_several finds.sought template text)
-    (find c.args._start text) (finds.finds c.args._start text ∙ many) (c.find_several_into.ensures.found finds.sought finds.seek template)
+    (find c.args._start text) (finds.finds c.args._start text ∙ all-several finds.sought template text) (c.find_several_into.ensures.found finds.sought finds.seek template)
