@@ -472,14 +472,14 @@ static inline int32_t regress_search_new(regress_pattern *pattern, regress_searc
 /* Bounds how many steps each search for a match may take by `search` from now on. A service sets it for patterns and texts of
  * strangers, since a short pattern may take very long in a short text. SIZE_MAX takes the bound away; at first there is none.
  *
- * With a bound each call answers what it answers without, or REGRESS_TOO_MANY_STEPS where it would take more steps; then it has
- * written no range. regress_find, regress_match_at, regress_is_match and their kin each search for one match. regress_find_many and
- * its kin have the steps anew for each match that they look for, the one that is not there too: so a call with room for n matches
- * takes at most n times as many.
+ * With a bound each call answers what it answers without, or REGRESS_TOO_MANY_STEPS where a search would take more steps; of that
+ * search no range is written. Each search for a match has the steps anew. regress_find, regress_match_at, regress_is_match and their
+ * kin search for one match. regress_find_many and its kin search for one match after another, the last search may find none, and each
+ * may take as many steps: so a call with room for n matches takes at most n times as many.
  *
  * A step does the instruction of one state of the pattern's program, or drops the state. One more is counted for each 64 bytes or
- * units that a class passes over or that a back reference compares. A search for the next place where a match may begin is one step
- * however long it is. No clock plays a part: in one version of the library the same search stops at the same step everywhere.
+ * units that a class passes over or that a back reference compares. Looking for the next place where a match may begin is not counted.
+ * No clock plays a part: in one version of the library the same search stops at the same step everywhere.
  *
  * The bound is the handle's alone: another search of the same pattern has its own, and calls that take a pattern have none. The
  * caller keeps: no other call has the search. */

@@ -646,8 +646,9 @@ def compile(pattern, flags="", limit=LIMIT, max_steps=None):
 
     With `max_steps` each search for a match may take so many steps, or `TooManySteps` is raised: a short pattern may take very long in
     a short text. A step does the instruction of one state of the pattern's program, or drops the state; one more is counted for each
-    64 bytes or units that a class passes over or that a back reference compares. What finds several matches, as `finditer` and `sub`,
-    has the steps anew for each match that it looks for. No clock plays a part: the same search stops at the same step everywhere."""
+    64 bytes or units that a class passes over or that a back reference compares. Looking for the next place where a match may begin is
+    not counted. What finds several matches, as `finditer` and `sub`, has the steps anew for each match that it looks for. No clock plays
+    a part: the same search stops at the same step everywhere."""
     if isinstance(pattern, Pattern):
         if flags or limit != LIMIT or max_steps is not None:
             raise ValueError("a compiled pattern has its flags, its limit and its steps")

@@ -10,9 +10,9 @@ use crate::replacing::{expand, replaced};
 /// answer, or err where a search would take more steps.
 ///
 /// A step does the instruction of one state of the pattern's program, or drops the state. One more is counted for each 64 bytes or units
-/// that a class passes over or that a back reference compares. A search for the next place where a match may begin is one step however
-/// long it is. An iteration has the steps anew for each match that it looks for, so n matches take at most n + 1 times as many, and
-/// `take` bounds how many there are. No clock plays a part: the same search stops at the same step everywhere.
+/// that a class passes over or that a back reference compares. Looking for the next place where a match may begin is not counted. Each
+/// search for a match has the steps anew, also in an iteration: all of n matches take at most n + 1 times as many, and `take` bounds how
+/// many there are. No clock plays a part: the same search stops at the same step everywhere.
 ///
 /// ```
 /// let commas = regress_proved::Regex::new(r"(?:\\.|[^,])+").unwrap();
