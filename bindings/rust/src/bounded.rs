@@ -11,8 +11,8 @@ use crate::replacing::{expand, replaced};
 ///
 /// A step does the instruction of one state of the pattern's program, or drops the state. One more is counted for each 64 bytes or units
 /// that a class passes over or that a back reference compares. Looking for the next place where a match may begin is not counted. Each
-/// search for a match has the steps anew, also in an iteration: all of n matches take at most n + 1 times as many, and `take` bounds how
-/// many there are. No clock plays a part: the same search stops at the same step everywhere.
+/// search for a match has the steps anew, also in an iteration: all of n matches take at most n + 1 times as many, and the first n of
+/// more fewer than 2n times, since some are found ahead. No clock plays a part: the same search stops at the same step everywhere.
 ///
 /// ```
 /// let commas = regress_proved::Regex::new(r"(?:\\.|[^,])+").unwrap();

@@ -4,6 +4,7 @@ use regress_calls::{
     CallError, DEFAULT_LIMIT, Slot, Source, Text, TextRange, compile, find, find_many, free,
     put_search, put_small_tables, set_max_steps,
 };
+use std::alloc::Global;
 
 const UNSET: TextRange = TextRange { start: 0, end: 0 };
 
@@ -86,41 +87,65 @@ fn finds_many_matches_by_steps(rt: HostRuntime) {
     assert!(rt; search.into_box(alloc).is_some());
 }
 
+/// Puts a search of a pattern into a handle, by two handles that then hold tables and the pattern.
+fn put_search_of(
+    alloc: Global,
+    source: &str,
+    tables: &mut Slot,
+    pattern: &mut Slot,
+    search: &mut Slot,
+) -> Result<(), CallError> {
+    let source = Source::Utf8(source);
+    put_small_tables(alloc, tables)?;
+    match compile(alloc, source, b"", DEFAULT_LIMIT, tables, pattern) {
+        Ok(()) => put_search(alloc, pattern, search),
+        Err(refused) => Err(refused.error),
+    }
+}
+
 #[test]
-fn bounds_each_search_by_steps(rt: HostRuntime) {
+fn bounds_a_search_by_steps(rt: HostRuntime) {
     let alloc = rt.alloc();
     let mut tables = Slot::empty();
     let mut pattern = Slot::empty();
     let mut search = Slot::empty();
-    put_small_tables(alloc, &mut tables).expect(&rt, "tables");
-    let source = Source::Utf8("(?:(a)|b)*c");
-    compile(alloc, source, b"", DEFAULT_LIMIT, &mut tables, &mut pattern).expect(&rt, "a pattern");
+    let source = "(?:(a)|b)*c";
+    put_search_of(alloc, source, &mut tables, &mut pattern, &mut search).expect(&rt, "a search");
+    let text = Text::Utf8("c ababababababc");
+    let mut ranges = [UNSET];
     assert_eq!(rt;
         set_max_steps(alloc, &mut pattern, 8),
         Err(CallError::WrongHandle)
     );
-    put_search(alloc, &mut pattern, &mut search).expect(&rt, "a search");
-    let text = Text::Utf8("c ababababababc");
-    let mut ranges = [UNSET];
-    let mut start = 0;
-    let mut found = 0;
     assert_eq!(rt; set_max_steps(alloc, &mut search, 8), Ok(()));
-    let done = find_many(
-        alloc,
-        &mut search,
-        text,
-        &mut start,
-        &mut ranges,
-        1,
-        &mut found,
-    );
-    assert_eq!(rt; done, Ok(()));
-    assert_eq!(rt; (found, start, ranges[0]), (1, 1, range(0, 1)));
     assert_eq!(rt;
         find(alloc, &mut search, text, 2, &mut ranges),
         Err(CallError::TooManySteps)
     );
+    assert_eq!(rt; ranges[0], UNSET);
+    assert_eq!(rt; find(alloc, &mut search, text, 0, &mut ranges), Ok(2));
     assert_eq!(rt; ranges[0], range(0, 1));
+    assert_eq!(rt; set_max_steps(alloc, &mut search, usize::MAX), Ok(()));
+    assert_eq!(rt; find(alloc, &mut search, text, 2, &mut ranges), Ok(2));
+    assert_eq!(rt; ranges[0], range(2, 15));
+    assert!(rt; pattern.into_box(alloc).is_some());
+    assert!(rt; tables.into_box(alloc).is_some());
+    assert!(rt; search.into_box(alloc).is_some());
+}
+
+#[test]
+fn bounds_each_of_many_matches_by_steps(rt: HostRuntime) {
+    let alloc = rt.alloc();
+    let mut tables = Slot::empty();
+    let mut pattern = Slot::empty();
+    let mut search = Slot::empty();
+    let source = "(?:(a)|b)*c";
+    put_search_of(alloc, source, &mut tables, &mut pattern, &mut search).expect(&rt, "a search");
+    assert_eq!(rt; set_max_steps(alloc, &mut search, 16), Ok(()));
+    let text = Text::Utf8("c c ababababababc");
+    let mut ranges = [UNSET; 3];
+    let mut start = 0;
+    let mut found = 0;
     let done = find_many(
         alloc,
         &mut search,
@@ -131,10 +156,8 @@ fn bounds_each_search_by_steps(rt: HostRuntime) {
         &mut found,
     );
     assert_eq!(rt; done, Err(CallError::TooManySteps));
-    assert_eq!(rt; (found, start), (0, 1));
-    assert_eq!(rt; set_max_steps(alloc, &mut search, usize::MAX), Ok(()));
-    assert_eq!(rt; find(alloc, &mut search, text, 1, &mut ranges), Ok(2));
-    assert_eq!(rt; ranges[0], range(2, 15));
+    assert_eq!(rt; (found, start), (2, 3));
+    assert_eq!(rt; ranges, [range(0, 1), range(2, 3), UNSET]);
     assert!(rt; pattern.into_box(alloc).is_some());
     assert!(rt; tables.into_box(alloc).is_some());
     assert!(rt; search.into_box(alloc).is_some());
