@@ -1,5 +1,5 @@
 -- When the bound of a search stops it.
-use Rattle.std.specs.Prelude.{◌≡◌, ℕ, List, Option, Some, None}
+use Rattle.std.specs.Prelude.{◌≡◌, ℕ, List, Option}
 use Rattle.std.proofs.Common.{refl, sym, subst}
 use Rattle.regress_engine_input.specs.Views.{Kind}
 use Rattle.regress_engine_exec.specs.declared.error.SearchError.{SearchError}
