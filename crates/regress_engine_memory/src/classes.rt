@@ -15,7 +15,7 @@ use regress_front_core::LoopData;
 use std::alloc::{AllocError, Global};
 
 /// A loop is counted that has at most so many iterations.
-const MOST_COUNTED: usize = 256;
+const MOST_COUNTED: usize = 4_096;
 
 /// What hashes are multiplied with: a prime, so that the numbers of different keys fall into different buckets.
 const SPREAD: usize = 8_191;
