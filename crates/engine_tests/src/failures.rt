@@ -153,6 +153,11 @@ const HOSTILE: &[HostileRow] = &[
     ("(?<=b(?:a|a)*)c", "a", 1000, "c", None),
     ("(?:(a|a){127}!)+?", "a", 200, "", None),
     ("(?:a|aa){200}b", "a", 300, "", None),
+    // A loop of many iterations has a plane for each.
+    ("(a|a){0,1000}b", "a", 1_500, "", None),
+    ("(?:a|aa){500}b", "a", 900, "", None),
+    (r"(x|){20000,}?\n", "x", 60, "", None),
+    ("(?:(?:yy)?|x){20000,}z", "x", 60, "", None),
     // Fewer characters are left than a match needs.
     ("(?:a?){300}a{300}", "a", 299, "", None),
     (r"^(x|){65536,}?\n", "x", 1, "", None),

@@ -6,7 +6,7 @@ use Rattle.regress_engine_memory.specs.Keys.{Keyed, class_of}
 
 -- a loop is counted that has at most so many iterations
 abbrev pub most_counted : ℕ
-most_counted = 256
+most_counted = 4096
 
 -- what a table tells, with these loops counted
 abbrev pub keyed_of : Table → Keyed

@@ -15,7 +15,10 @@ use regress_front_core::LoopData;
 use std::alloc::{AllocError, Global};
 
 /// A loop is counted that has at most so many iterations.
-const MOST_COUNTED: usize = 256;
+const MOST_COUNTED: usize = 4_096;
+
+/// What hashes are multiplied with: a prime, so that the numbers of different keys fall into different buckets.
+const SPREAD: usize = 8_191;
 
 /// The data of a loop; of one that is not there those before any iteration.
 fn data_of(loops: &[LoopData<usize>], id: usize) -> LoopData<usize>
@@ -71,6 +74,17 @@ impl FlowTable {
             }
         }
         true
+    }
+
+    /// A number for a key and for the classes of the loops that are live at an address. Classes that follow one another give numbers
+    /// that do, so that what is tried one after another lies side by side.
+    pub(crate) fn hash(&self, key: usize, at: usize, loops: &[LoopData<usize>]) -> usize {
+        let mut hash = key.wrapping_mul(SPREAD);
+        for id in self.live(at) {
+            let class = self.class(*id, data_of(loops, *id).iters);
+            hash = hash.wrapping_mul(SPREAD).wrapping_add(class);
+        }
+        hash
     }
 
     /// The classes of the loops that are live at an address.

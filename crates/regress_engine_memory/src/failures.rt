@@ -16,8 +16,14 @@ use regress_engine_undo::Spot;
 use regress_front_core::LoopData;
 use std::alloc::{AllocError, Global};
 
-/// At most so many planes of an address are looked at, those that were made last. A loop of very many iterations has one for each.
+/// At most so many planes of a bucket are looked at, those that were made last.
 const MOST_TRIED: usize = 1024;
+
+/// How many blocks a plane takes beside those of its bits.
+const PLANE_ROOM: usize = 4;
+
+/// The planes are sorted into so many buckets.
+const BUCKETS: usize = 1 << 16;
 
 /// An address, read in a direction, with the classes of the loops that are live there, and the offsets at which it fails.
 #[derive(Debug, Drop)]
@@ -28,18 +34,18 @@ pub struct Plane {
     pub(crate) further: bool,
     pub(crate) classes: Vec<usize>,
     pub(crate) offsets: Bits,
-    /// The next plane of the same address.
+    /// The next plane of the same bucket.
     pub(crate) next: Option<usize>,
 }
 
-/// What is known to fail in one text, of one program. It takes no more than so many blocks of 256 bits; past that, or where
-/// memory is refused, nothing more is learned.
+/// What is known to fail in one text, of one program. It takes no more than so many blocks of 256 bits, some of them for each plane;
+/// past that, or where memory is refused, nothing more is learned.
 #[derive(Debug, Drop)]
 pub struct Failures {
     pub(crate) alloc: Global,
     pub(crate) table: FlowTable,
     pub(crate) planes: Vec<Plane>,
-    /// The first plane of each address.
+    /// The first plane of each bucket.
     pub(crate) heads: Vec<Option<usize>>,
     /// How many blocks may still be taken.
     pub(crate) room: usize,
@@ -76,13 +82,21 @@ impl Failures {
         self.table.need(at)
     }
 
+    /// The bucket in which the plane of a spot and of the loops that are held is kept.
+    fn bucket(&self, spot: &Spot, further: bool, loops: &[LoopData<usize>]) -> usize {
+        let kind = 2 * spot.forward as usize + further as usize;
+        let key = spot.at.wrapping_mul(4).wrapping_add(kind);
+        self.table.hash(key, spot.at, loops) % BUCKETS
+    }
+
     /// The plane of a spot and of the loops that are held, if there is one, of it alone or of all further iterations too.
     fn find(&self, spot: &Spot, further: bool, loops: &[LoopData<usize>]) -> Option<usize>
         ensures { IfSome result (λ k. (p : Plane) × (slice_get self.now.planes.items k ≡ Some p)
             × IsPlaneOf (table_of self.now.table) spot.now further (map loop_of loops.now) p) }
     {
-        let mut next = if spot.at < self.heads.len() {
-            self.heads[spot.at]
+        let bucket = self.bucket(spot, further, loops);
+        let mut next = if bucket < self.heads.len() {
+            self.heads[bucket]
         } else {
             None
         };
@@ -143,13 +157,13 @@ impl Failures {
         k < self.planes.len() && self.planes[k].offsets.contains(offset)
     }
 
-    /// Makes room for the first plane of an address. It errs where memory is refused; nothing else changes.
-    fn make_head(&mut self, at: usize) -> Result<(), AllocError>
+    /// Makes room for the first plane of a bucket. It errs where memory is refused; nothing else changes.
+    fn make_head(&mut self, bucket: usize) -> Result<(), AllocError>
         ensures table { self.new.table ≡ self.old.table }
         ensures planes { self.new.planes.items ≡ self.old.planes.items }
-        ensures room { OnOk result (at < length self.new.heads.items) }
+        ensures room { OnOk result (bucket < length self.new.heads.items) }
     {
-        while self.heads.len() <= at {
+        while self.heads.len() <= bucket {
             self.heads.push(None)?;
         }
         Ok(())
@@ -171,9 +185,10 @@ impl Failures {
         if !self.table.have_classes(spot.at, &classes, loops) {
             return Ok(None);
         }
-        self.make_head(spot.at)?;
+        let bucket = self.bucket(spot, further, loops);
+        self.make_head(bucket)?;
         let k = self.planes.as_slice().len();
-        let next = self.heads[spot.at];
+        let next = self.heads[bucket];
         self.planes.push(Plane {
             at: spot.at,
             forward: spot.forward,
@@ -182,7 +197,7 @@ impl Failures {
             offsets: Bits::new(self.alloc),
             next,
         })?;
-        self.heads[spot.at] = Some(k);
+        self.heads[bucket] = Some(k);
         Ok(Some(k))
     }
 
@@ -197,9 +212,10 @@ impl Failures {
         if let Some(k) = self.find(spot, further, loops) {
             return Some(k);
         }
-        if self.room == 0 {
+        if self.room < PLANE_ROOM {
             return None;
         }
+        self.room -= PLANE_ROOM;
         match self.add(spot, further, loops) {
             Ok(k) => k,
             Err(_) => {

@@ -8,6 +8,6 @@ invariant-loop-self l = record {
   planes : l.self.planes.items ≡ l.initial.self.planes.items;
 }
 
--- the addresses that are left
+-- the buckets that are left
 abbrev pub decreases-loop-self : goal.decreases-loop-self
-decreases-loop-self l = l.at + 1 - length l.self.heads.items
+decreases-loop-self l = l.bucket + 1 - length l.self.heads.items
