@@ -16,8 +16,8 @@ impl Regex {
     /// pattern of a stranger cannot keep a program busy. It takes no memory.
     ///
     /// A step does the instruction of one state, or drops the state. One more is counted for each 64 bytes or units that a class
-    /// passes over or that a back reference compares. A search for the next place where a match may begin is one step however
-    /// long it is.
+    /// passes over or that a back reference compares. What looks for the next place where a match may begin is not
+    /// counted.
     ///
     /// ```rust
     /// fn count(regex: &Regex, text: &str) -> Result<usize, SearchError> {

@@ -29,9 +29,9 @@ use std::alloc::Global;
 /// A compiled pattern, and a number of steps that each search with it may take: from `Regex::within`.
 ///
 /// A step does the instruction of one state, or drops the state. One more is counted for each 64 bytes or units that a class
-/// passes over or that a back reference compares. A search for the next place where a match may begin is one step however long it
-/// is. A search that would take more steps errs with `TooManySteps`; so it does only where the runs of the search take so many
-/// steps or more, each counted with one more for each 64 bytes or units of the text.
+/// passes over or that a back reference compares. What looks for the next place where a match may begin is not counted. A search
+/// that would take more steps errs with `TooManySteps`; so it does only where the runs of the search take so many steps or more,
+/// each counted with one more for each 64 bytes or units of the text.
 #[derive(Clone, Copy, Debug)]
 pub struct Bounded<'r> {
     pub(crate) alloc: Global,
