@@ -16,6 +16,7 @@ use Rattle.regress_engine_exec.specs.BoundedSearches.{CountsStep}
 use Rattle.regress_programs.specs.declared.slots.Anchored.TheVariants.{No}
 use Rattle.regress_programs.specs.declared.compiled.Compiled.{Compiled}
 use Rattle.regress_bounded.specs.declared.bounded.Bounded.{Bounded}
+use Rattle.regress_bounded.specs.Coming.{GivesWithin}
 use Rattle.regress_bounded.specs.Standing.{compiled_of, steps_of, TakesAllInBytes}
 use Rattle.regress_bounded.specs.Stopping.{seen_by, Counts, TakesAll}
 use Rattle.regress.proofs.IterationLemmas.{first-given}
@@ -36,11 +37,16 @@ within-hit bytes place s IsMatch before after (Some (Ok m)) gives same named =
     head-hit bytes place s (Some m) (first-given IsMatch before after (Some (Ok m)) (told (of_utf8 bytes)) _ gives same) (named m gives.1)
 within-hit bytes place s IsMatch before after (Some (Err e)) gives same named = tt
 
--- what a call errs with is what the iterator gave
+-- what a call answers is what the iterator gave
 pub given-err : {T E : Type 0} (given : Option (Result T E)) (e : E) → option_transpose given ≡ Err e → given ≡ Some (Err e)
 given-err None e is = absurd (cc is)
 given-err (Some (Ok x)) e is = absurd (cc is)
 given-err (Some (Err d)) e is = cc is
+
+pub given-some : {T E : Type 0} (given : Option (Result T E)) (x : T) → option_transpose given ≡ Ok (Some x) → given ≡ Some (Ok x)
+given-some None x is = absurd (cc is)
+given-some (Some (Ok y)) x is = cc is
+given-some (Some (Err d)) x is = absurd (cc is)
 
 -- the error that a `?` hands on is the one that it was given
 pub handed-same : {T E : Type 0} (r : Result T E) (x e : E) → IsErrAnd r (λ y. y ≡ x) → r ≡ Err e → x ≡ e
@@ -48,7 +54,7 @@ handed-same (Ok v) x e is err = absurd is
 handed-same (Err y) x e is err = cc (is, err)
 
 -- a step that had too many steps was a search that takes all that there may be
-pub step-too_long : (s : Search) (from : Option ℕ) (given : Option (Result Match SearchError)) (before after : ℕ) → CountsStep s from given before after
+step-too_long : (s : Search) (from : Option ℕ) (given : Option (Result Match SearchError)) (before after : ℕ) → CountsStep s from given before after
     → (from ≡ None → given ≡ None) → given ≡ Some (Err TooManySteps) → (program : CompiledRegex) (v : View) (steps : ℕ)
     → s.compiled ≡ program → s.view ≡ v → before ≡ steps → (at : ℕ) × TakesAll No program v at steps
 step-too_long s None given before after counts ended is program v steps made over left = absurd (let none = sym (ended refl) ∙ is in cc none)
@@ -59,12 +65,21 @@ step-too_long s (Some at) (Some (Err TooManySteps)) before after counts ended is
     let all : TakesAll No s.compiled s.view at before = subst (λ (n : ℕ). Counts No s.compiled s.view at before n) counts.0 counts.1 in
     (at, subst (λ (n : ℕ). TakesAll No program v at n) left (subst (λ (w : View). TakesAll No program w at before) over (subst (λ (c : CompiledRegex). TakesAll No c s.view at before) made all)))
 
+-- the same of a call of an iterator
+pub within-too_long : {S : Type 0} (search_by : S → Search) (next_from : S → Option ℕ) (budget_of : S → ℕ) (old new : S) (given : Option (Result Match SearchError))
+    → GivesWithin search_by next_from budget_of old given new → given ≡ Some (Err TooManySteps) → (program : CompiledRegex) (v : View) (steps : ℕ)
+    → (search_by old).compiled ≡ program → (search_by old).view ≡ v → budget_of old ≡ steps → (at : ℕ) × TakesAll No program v at steps
+within-too_long search_by next_from budget_of old new given step is program v steps made over left =
+    step-too_long (search_by old) (next_from old) given (budget_of old) (budget_of new) step.counted step.ended is program v steps made over left
+
 -- where a regex with a number of steps takes all of them, the search for it is too long
 pub all-too_long : (regex : Regex) (b : Bounded) (steps : ℕ) → compiled_of b ≡ regex.compiled → steps_of b ≡ steps → (text : List ℕ) (at : ℕ)
     → TakesAllInBytes b No utf8 text at → IsTooLong (Some steps) text regex
-all-too_long regex b steps same many text at takes =
-    (at, subst (λ (c : Compiled). TakesAll No c.byte_program (seen_by c.byte_program utf8 text) at steps) same
-    (subst (λ (n : ℕ). TakesAll No (compiled_of b).byte_program (seen_by (compiled_of b).byte_program utf8 text) at n) many takes))
+all-too_long regex b steps same many text at takes = (
+  at,
+  subst (λ (c : Compiled). TakesAll No c.byte_program (seen_by c.byte_program utf8 text) at steps) same
+      (subst (λ (n : ℕ). TakesAll No (compiled_of b).byte_program (seen_by (compiled_of b).byte_program utf8 text) at n) many takes),
+)
 
 -- the leftmost match of one pattern is its first
 one-leftmost : (text : List ℕ) (s : Sought) (place : ℕ) → leftmost text (s ∷ []) place ≡ first_hit text place s

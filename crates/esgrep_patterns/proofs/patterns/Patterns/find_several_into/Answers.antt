@@ -3,7 +3,6 @@ use Rattle.esgrep_patterns.proofs.OrderLemmas.{reached, reached-more, order-more
 use Rattle.esgrep_patterns.proofs.HitLemmas.{hit-some, hit-none}
 use Rattle.esgrep_patterns.proofs.SeveralLemmas.{found-step, found-end, none-past}
 use Rattle.esgrep_patterns.proofs.patterns.Patterns.find_several_into.Goals as goal
-use Rattle.esgrep_patterns.proofs.patterns.Patterns.find_several_into.Goals.{else-loop-start-test, then-loop-start-test+in_ok-found+in_default}
 
 pub loop-start-init : goal.loop-start-init
 loop-start-init c = record {
@@ -33,13 +32,15 @@ loop-start-preserved c =
           (left, _, c.behind-start.ensures.next h hit, more, rw c.in_ok-push.ensures.items next);
     }
 
-pub returns-clause-found : goal.returns-clause-found
-returns-clause-found c = λ ss seek template.
+pub returns-after-loop-start-clause-found : goal.returns-after-loop-start-clause-found
+returns-after-loop-start-clause-found c = λ ss seek template.
     let text = c.args.text.now in
     let (n, place, begins, room, same) = c.loop-start.invariant.found ss seek template in
-    elim c.loop-start-test.branch [
-      | else-loop-start-test w ↦ found-end template text ss n place _ _ (none-past text c.utf8.text ss place c.loop-start.start begins (omega (arith, w.loop-start-test.false))) same
-      | then-loop-start-test+in_ok-found+in_default w ↦
-          let all = w.in_ok-found.ensures.found ss seek place begins in
-          found-end template text ss n place _ _ (hit-none text _ (rw w.in_default.is at all)) same
-    ]
+    found-end template text ss n place _ _ (none-past text c.utf8.text ss place c.loop-start.start begins (omega arith)) same
+
+pub returns-in_default-clause-found : goal.returns-in_default-clause-found
+returns-in_default-clause-found c = λ ss seek template.
+    let text = c.args.text.now in
+    let (n, place, begins, room, same) = c.loop-start.invariant.found ss seek template in
+    let all = c.in_ok-found.ensures.found ss seek place begins in
+    found-end template text ss n place _ _ (hit-none text _ (rw c.in_default.is at all)) same

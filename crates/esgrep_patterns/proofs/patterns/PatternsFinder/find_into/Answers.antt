@@ -6,10 +6,10 @@ use Rattle.esgrep_patterns.proofs.SeveralLemmas.{found-alone}
 use Rattle.esgrep_patterns.proofs.BoundLemmas.{all-several}
 use Rattle.esgrep_patterns.proofs.patterns.PatternsFinder.find_into.Goals as goal
 
-pub returns-then-len-eq1-clause-found : goal.returns-then-len-eq1-clause-found
-returns-then-len-eq1-clause-found c = λ template find finds.
+pub returns-then-is_none-clause-found : goal.returns-then-is_none-clause-found
+returns-then-is_none-clause-found c = λ template find finds.
     let text = c.args.text.now in
-    found-alone c.args.self.now.regexes.items finds.sought c.index.result.now (omega (arith, c.if-len-eq1.true, c.len.ensures)) c.index.ensures finds.seek
+    found-alone c.args.self.now.regexes.items finds.sought c.index.result.now (omega arith) c.index.ensures finds.seek
     template text (find c.args._start text) (finds.finds c.args._start text) _
     (λ s seeks is. found-all_ok c.find_one_into.result (map (found_of template text) c.find_one_into.new.founds.items) _ (find c.args._start text)
     (is ∙ ap (λ names. found_in s.table s.options s.pattern template names text) (sym seeks.1))
