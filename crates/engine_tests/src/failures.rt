@@ -81,8 +81,8 @@ fn known_of(alloc: Global, room: usize) -> Result<Option<(bool, bool, bool)>, Fa
 #[test]
 fn a_failure_is_known_where_there_is_room(rt: HostRuntime) -> Result<(), Fail> {
     assert!(rt; known_of(rt.alloc(), 0)? == Some((false, false, false)));
-    assert!(rt; known_of(rt.alloc(), 2)? == Some((false, false, false)));
-    assert!(rt; known_of(rt.alloc(), 3)? == Some((true, false, false)));
+    assert!(rt; known_of(rt.alloc(), 6)? == Some((false, false, false)));
+    assert!(rt; known_of(rt.alloc(), 7)? == Some((true, false, false)));
     Ok(())
 }
 
