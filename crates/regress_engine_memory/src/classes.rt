@@ -76,6 +76,13 @@ impl FlowTable {
         true
     }
 
+    /// Whether there is a loop of which more than two classes are told apart.
+    pub(crate) fn has_many_classes(&self) -> bool {
+        self.bounds
+            .iter()
+            .any(|bounds| bounds.most <= MOST_COUNTED || bounds.least > 1)
+    }
+
     /// A number for a key and for the classes of the loops that are live at an address. Classes that follow one another give numbers
     /// that do, so that what is tried one after another lies side by side.
     pub(crate) fn hash(&self, key: usize, at: usize, loops: &[LoopData<usize>]) -> usize {
