@@ -17,4 +17,5 @@ pub mod HeldLemmas
 pub mod ClassLemmas
 pub mod PlaneLemmas
 mod Rows
+mod PaddedRuns
 pub mod Needing
