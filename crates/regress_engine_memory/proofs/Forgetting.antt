@@ -11,7 +11,7 @@ use Rattle.regress_engine_memory.specs.Flow.{Flow, IsFlow}
 use Rattle.regress_engine_memory.specs.Under.{room, HasMoved, Covers}
 use Rattle.regress_engine_memory.specs.Keys.{Keyed, Key, AreFree, IsSteady, FailsAt}
 use Rattle.regress_engine_memory.proofs.LessRuns.{less-fails}
-use Rattle.regress_engine_memory.proofs.PaddedRuns.{data-here}
+use Rattle.regress_engine_memory.proofs.PaddedRuns.{padded-fails}
 
 -- data of one class are covered by those of which the iteration may end
 alike-covers : (flow : Flow) (last id : ℕ) (dir : Direction) (o : ℕ) (b : Bool) (x y : ℕ × ℕ) → (if b then x.0 else min x.0 (flow.least id)) ≡ (if b then y.0 else min y.0 (flow.least id))

@@ -1,6 +1,6 @@
 -- A state has no answer that is under one that has none, and of one loop may have fewer iterations behind it.
 use Rattle.std.specs.Prelude.{slice_get, slice_set, nat_lt, nat_le, IfSome}
-use Rattle.std.proofs.Common.{◌≡◌, ℕ, suc, ◌+◌, ◌<◌, ◌≤◌, ◌⊎◌, inl, inr, ◌&&◌, ◌==◌, Bool, true, false, List, [], ◌∷◌, ◌++◌, length, get_or, Option, Some, None, if◌then◌else◌, refl, sym, ap, ap₂, ◌∙◌, subst, arith, length-set, get_or-set_other, get_or-set_same, append_assoc}
+use Rattle.std.proofs.Common.{◌≡◌, ℕ, zero, suc, ◌+◌, ◌<◌, ◌≤◌, ◌⊎◌, inl, inr, ◌&&◌, ◌==◌, Bool, true, false, List, [], ◌∷◌, ◌++◌, length, get_or, Option, Some, None, if◌then◌else◌, refl, sym, ap, ap₂, ◌∙◌, subst, arith, length-set, get_or-set_other, get_or-set_same, append_assoc}
 use Rattle.std.proofs.lemmas.Bool.{lt-ltb, le-ltb, ne_eqb, eq-eqb}
 use Rattle.std.proofs.lemmas.Bool.Decides.{nat_tests}
 use Rattle.regress_meaning.specs.Meaning.{Direction}
@@ -653,5 +653,80 @@ module _ (flow : Flow) (last : ℕ) (dir : Direction) (program : Program) (input
       less-fails (looks {kind = kind} {first = first} {last = high} {continuation = continuation} {s = t} {ss = ts} {m = m} {q = q} here inner next) none steady (s ∷ ss) (inr skipped) =
           less-fails next none (λ v j met. steady v j (behind here (m, inner) met)) (s ∷ ss) (under-skip lack (after_submatch kind first high continuation t q) (s ∷ ss) ts skipped)
 
-    pub data-here : (k : ℕ) → ℕ
-    data-here k = k
+  module _ (closed : IsFlow flow program) (apart : IsApart) where
+    -- a state is under one of two
+    under-first : (lack : ℕ) (g : Bool) (x z e : Whole) (ts : List Whole) → Under lack x z → AllUnder lack (x ∷ []) (ordered g true true z e ++ ts)
+    under-first lack true x z e ts under = inl (under, under-none lack (e ∷ ts))
+    under-first lack false x z e ts under = inr (inl (under, under-none lack ts))
+
+    under-second : (lack : ℕ) (g : Bool) (x z e : Whole) (ts : List Whole) → Under lack x e → AllUnder lack (x ∷ []) (ordered g true true z e ++ ts)
+    under-second lack true x z e ts under = inr (inl (under, under-none lack ts))
+    under-second lack false x z e ts under = inl (under, under-none lack (z ∷ ts))
+
+    -- one iteration that the first state lacks more
+    one-more : (lack : ℕ) → Turns closed apart lack → Turns closed apart (suc lack)
+    one-more lack before us n r run none steady o ms hs ts is ls c within size few lacks covers enough room-left calm calm-out = record {
+      more = λ ks gs longer alike at-it. fails (whole (suc begin) o ks gs)
+          (under-first lack f.greedy (whole (suc begin) o ks gs) again left ts (begun ks gs longer alike at-it
+          (λ few'. before us n r run none steady o ms hs ts is ks (suc c) (omega (arith, longer, within)) (longer ∙ size) few' (omega (arith, lacks)) (λ k ne asked. covers' ks alike k ne asked) enough room-left calm calm-out)));
+      out = λ ks gs longer alike. fails (whole f.exit o ks gs) (under-second lack f.greedy (whole f.exit o ks gs) again left ts (gone ks gs longer alike));
+    }
+      where
+        again : Whole
+        again = whole (suc begin) o (slice_set ms id (suc (get_or ms id (0, 0)).0, o)) hs
+
+        left : Whole
+        left = whole f.exit o ms hs
+
+        fails : (x : Whole) → AllUnder lack (x ∷ []) (ordered f.greedy true true again left ++ ts) → Fails program input dir (x ∷ [])
+        fails x under = less-fails closed apart lack before run none steady (x ∷ []) (subst (AllUnder lack (x ∷ [])) (sym is) under)
+
+        covers' : (ks : List (ℕ × ℕ)) → Alike ls ks → (k : ℕ) → (k ≡ id → ⊥) → Asked k → Covers flow last k dir o (get_or ks k (0, 0)) (get_or ms k (0, 0))
+        covers' ks alike k ne asked = subst (λ x. Covers flow last k dir o x (get_or ms k (0, 0))) (alike k ne asked) (covers k ne asked)
+
+        gone : (ks : List (ℕ × ℕ)) (gs : List Marks) → length ks ≡ length ls → Alike ls ks → Under lack (whole f.exit o ks gs) left
+        gone ks gs longer alike = record {
+          calm = calm-out;
+          at = refl;
+          offset = refl;
+          size = longer ∙ size;
+          within = omega (arith, longer, within);
+          loops = λ k l. inl (covers' ks alike k (λ e. apart.silent (subst (λ j. flow.live f.exit j ≡ true) e l)) (inr l));
+        }
+
+        begun : (ks : List (ℕ × ℕ)) (gs : List Marks) → length ks ≡ length ls → Alike ls ks → get_or ks id (0, 0) ≡ (suc c, o)
+            → (suc c ≤ flow.least id → Again o ks (suc c)) → Under lack (whole (suc begin) o ks gs) again
+        begun ks gs longer alike at-it further = record {
+          calm = calm;
+          at = refl;
+          offset = refl;
+          size = longer ∙ size ∙ sym (length-set ms id (suc (get_or ms id (0, 0)).0, o));
+          within = omega (arith, longer, within);
+          loops = λ k l. by_loop k l (cases_eq k id);
+        }
+          where
+            here' : get_or (slice_set ms id (suc (get_or ms id (0, 0)).0, o)) id (0, 0) ≡ (suc (get_or ms id (0, 0)).0, o)
+            here' = get_or-set_same ms id (suc (get_or ms id (0, 0)).0, o) (0, 0) (omega (arith, size, within))
+
+            mine : (flow.least id < suc c) ⊎ (suc c ≤ flow.least id) → Covered lack id o ks (suc c, o) (suc (get_or ms id (0, 0)).0, o)
+            mine (inl past) = inl (inr (inr (inr (record { begun = past; here = refl; enough = omega (arith, enough); more = omega (arith, room-left); entered = refl }))))
+            mine (inr few') = inr (refl, inr (record { here = refl; entered = refl; enough = omega (arith, enough); more = omega (arith, room-left); lacks = omega (arith, lacks); again = further few' }))
+
+            by_loop : (k : ℕ) → flow.live (suc begin) k ≡ true → (k ≡ id) ⊎ (k ≡ id → ⊥)
+                → Covered lack k o ks (get_or ks k (0, 0)) (get_or (slice_set ms id (suc (get_or ms id (0, 0)).0, o)) k (0, 0))
+            by_loop k l (inl e) =
+                subst (λ j. Covered lack j o ks (get_or ks j (0, 0)) (get_or (slice_set ms id (suc (get_or ms id (0, 0)).0, o)) j (0, 0))) (sym e)
+                (subst (λ x. Covered lack id o ks x (get_or (slice_set ms id (suc (get_or ms id (0, 0)).0, o)) id (0, 0))) (sym at-it)
+                (subst (λ x. Covered lack id o ks (suc c, o) x) (sym here') (mine (cases_lt (flow.least id) (suc c)))))
+            by_loop k l (inr ne) =
+                inl (subst (λ x. Covers flow last k dir o (get_or ks k (0, 0)) x) (sym (get_or-set_other ms id k (suc (get_or ms id (0, 0)).0, o) (0, 0) ne)) (covers' ks alike k ne (inl l)))
+
+    -- however many it lacks
+    turns : (lack : ℕ) → Turns closed apart lack
+    turns zero = λ us n r run none steady o ms hs ts is ls c within size few lacks covers enough room-left calm calm-out. absurd (omega (arith, few, lacks))
+    turns (suc lack) = one-more lack (turns lack)
+
+    -- A state has no answer that is under one which has none, however many iterations of the loop it lacks.
+    pub padded-fails : (lack : ℕ) {ts : List Whole} {n : ℕ} {r : Option Whole} → Run program input dir ts n r → r ≡ None → IsSteady program input last dir ts
+        → (ss : List Whole) → AllUnder lack ss ts → Fails program input dir ss
+    padded-fails lack run none steady ss under = less-fails closed apart lack (turns lack) run none steady ss under
