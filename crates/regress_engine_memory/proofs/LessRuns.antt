@@ -328,13 +328,13 @@ module _ (flow : Flow) (last : ℕ) (program : Program) (input : Input) (closed 
   under-step dir i s t both here on =
       subst (λ (x : ℕ × ℕ). AreUnder flow last dir (successors program input i dir (whole x.0 x.1 s.loops s.groups)) (successors program input i dir t))
       (ap₂ (λ (a o : ℕ). (a, o)) (sym both.at) (sym both.offset))
-      (under-on flow last dir program input t.offset s.loops t.loops s.groups t.groups both.size t.at both.loops i (closed t.at i both.calm here) on)
+      (under-on flow last dir program input t.offset s.loops t.loops s.groups t.groups both.size t.at both.loops i (closed.leads t.at i both.calm here) on)
 
   -- behind a lookaround or an atomic group the data of loops outside are as they were, and cover each other further on
   under-outside : (dir : Direction) (kind : Submatch) (first high continuation : ℕ) (s t : Whole) → IsUnder flow last dir s t → Stands program t.at (code.submatch kind first high continuation)
       → (o : ℕ) (gs hs : List Marks) → IsOnward last dir t.offset o → IsUnder flow last dir (whole continuation o s.loops gs) (whole continuation o t.loops hs)
   under-outside dir kind first high continuation s t both here o gs hs on =
-      let (anew, hands) = closed t.at (code.submatch kind first high continuation) both.calm here in
+      let (anew, hands) = closed.leads t.at (code.submatch kind first high continuation) both.calm here in
       record {
         calm = hands.calm;
         at = refl;
@@ -347,7 +347,7 @@ module _ (flow : Flow) (last : ℕ) (program : Program) (input : Input) (closed 
   under-inside : (dir : Direction) (kind : Submatch) (first high continuation : ℕ) (s t : Whole) → IsUnder flow last dir s t → Stands program t.at (code.submatch kind first high continuation)
       → Agrees flow (onward s) (onward t)
   under-inside dir kind first high continuation s t both here =
-      let (anew, hands) = closed t.at (code.submatch kind first high continuation) both.calm here in
+      let (anew, hands) = closed.leads t.at (code.submatch kind first high continuation) both.calm here in
       record { calm = anew.calm; at = ap suc both.at; offset = both.offset; size = both.size; loops = λ id l. absurd (anew.silent id l) }
 
   -- States that are under some that have no answer have none.
@@ -359,7 +359,7 @@ module _ (flow : Flow) (last : ℕ) (program : Program) (input : Input) (closed 
   less-fails (goes {dir = dir} {i = i} {s = t} {ss = ts} here plain next) none steady (s ∷ ss) (inl both) =
       let rest = less-fails next none (λ u j met. steady u j (later here plain met)) (successors program input i dir s ++ ss)
       (under-append flow last dir (successors program input i dir t) (successors program input i dir s) ss ts
-      (under-step dir i s t both.0 here (steady t i now here plain (flows-unreferring flow program t.at i (closed t.at i both.0.calm here)) dir)) both.1) in
+      (under-step dir i s t both.0 here (steady t i now here plain (flows-unreferring flow program t.at i (closed.leads t.at i both.0.calm here)) dir)) both.1) in
       (suc rest.0, goes (subst (λ a. Stands program a i) (sym both.0.at) here) plain rest.1)
   less-fails (goes {dir = dir} {i = i} {s = t} {ss = ts} here plain next) none steady (s ∷ ss) (inr skipped) =
       less-fails next none (λ u j met. steady u j (later here plain met)) (s ∷ ss) (under-skip flow last dir (successors program input i dir t) (s ∷ ss) ts skipped)

@@ -6,6 +6,7 @@ pub mod SameRuns
 pub mod EachState
 pub mod Onward
 pub mod LessRuns
+mod PaddedRuns
 pub mod Forgetting
 pub mod Exits
 pub mod Taking
@@ -17,5 +18,4 @@ pub mod HeldLemmas
 pub mod ClassLemmas
 pub mod PlaneLemmas
 mod Rows
-mod PaddedRuns
 pub mod Needing

@@ -14,7 +14,7 @@ use Rattle.regress_engine_runs.specs.Runs.{Run, ends, finds, goes, looks, succes
 use Rattle.regress_engine_runs.specs.Meets.{now, later, inside, behind, referred}
 use Rattle.regress_engine_runs.specs.UndoStack.{Fails, IsPast, whole, at_each}
 use Rattle.regress_engine_search.proofs.InsnLemmas.{again-successors}
-use Rattle.regress_engine_memory.specs.Flow.{Flow, Hands, Writes, IsToldOf, Flows, IsFlow}
+use Rattle.regress_engine_memory.specs.Flow.{Flow, Hands, Writes, IsToldOf, Flows, Asked, IsApart, IsFlow}
 use Rattle.regress_engine_memory.specs.Agreeing.{Agrees, EndAlike}
 use Rattle.regress_engine_memory.specs.Under.{room, IsFurther, IsOnward, AreOnward, HasMoved, IsLoose, Covers, IsFresh}
 use Rattle.regress_engine_memory.specs.Keys.{IsSteady}
@@ -30,12 +30,12 @@ module _ (flow : Flow) (last : ℕ) (dir : Direction) (program : Program) (input
   id = f.loop_id
 
   -- a loop's data are asked for where another iteration begins, or behind the repetition
-  abbrev pub Asked : ℕ → Type 0
-  Asked k = (flow.live (suc begin) k ≡ true) ⊎ (flow.live f.exit k ≡ true)
+  abbrev pub AskedFor : ℕ → Type 0
+  AskedFor k = Asked flow program begin f k
 
   -- such data of all other loops are the same
   abbrev pub Alike : (ls ks : List (ℕ × ℕ)) → Type 0
-  Alike ls ks = (k : ℕ) → (k ≡ id → ⊥) → Asked k → get_or ls k (0, 0) ≡ get_or ks k (0, 0)
+  Alike ls ks = (k : ℕ) → (k ≡ id → ⊥) → AskedFor k → get_or ls k (0, 0) ≡ get_or ks k (0, 0)
 
   -- From an offset at which an iteration began, of which the loops have such data and so many have begun, another has no answer, nor
   -- has what follows the repetition.
@@ -187,7 +187,7 @@ module _ (flow : Flow) (last : ℕ) (dir : Direction) (program : Program) (input
         }))
 
     -- a loop is written of which nothing is asked there, or this one
-    alike-written : (ls : List (ℕ × ℕ)) (m : ℕ) (v : ℕ × ℕ) → ((k : ℕ) → (k ≡ id → ⊥) → Asked k → k ≡ m → ⊥) → Alike ls (slice_set ls m v)
+    alike-written : (ls : List (ℕ × ℕ)) (m : ℕ) (v : ℕ × ℕ) → ((k : ℕ) → (k ≡ id → ⊥) → AskedFor k → k ≡ m → ⊥) → Alike ls (slice_set ls m v)
     alike-written ls m v spared k ne asked = sym (get_or-set_other ls m k v (0, 0) (spared k ne asked))
 
     pub written : (k m o : ℕ) (ls ms : List (ℕ × ℕ)) (x y : ℕ × ℕ) → length ls ≡ length ms → (k ≡ m → Covered lack m o (slice_set ls m x) x y)
@@ -365,7 +365,7 @@ module _ (flow : Flow) (last : ℕ) (dir : Direction) (program : Program) (input
 
         -- another repetition's iteration ends
         ends-other : (b : ℕ) → Flows flow program at (code.loop_again b) → ((g : LoopFields) → Stands program b (code.enter_loop g) → g.loop_id ≡ id → ⊥)
-            → ((g : LoopFields) → Stands program b (code.enter_loop g) → flow.live at id ≡ true → (k : ℕ) → (k ≡ id → ⊥) → Asked k → k ≡ g.loop_id → ⊥)
+            → ((g : LoopFields) → Stands program b (code.enter_loop g) → flow.live at id ≡ true → (k : ℕ) → (k ≡ id → ⊥) → AskedFor k → k ≡ g.loop_id → ⊥)
             → AllUnder lack (successors program input (code.loop_again b) dir s) (successors program input (code.loop_again b) dir t)
         ends-other b (g, there, told, live, writes, hands) foreign spared =
             let alike : flow.live (suc b) id ≡ true → (id ≡ g.loop_id → ⊥) → Alike ls (slice_set ls g.loop_id (suc (get_or ls g.loop_id (0, 0)).0, o)) =
@@ -448,18 +448,7 @@ module _ (flow : Flow) (last : ℕ) (dir : Direction) (program : Program) (input
         by_answers _ (Some v) None same within = absurd same
         by_answers _ None (Some w) same within = absurd same
 
-  -- What the program must keep: the repetition stands at one address alone, its data are not asked for behind it, and while they are
-  -- asked for no data are written of what is asked for where its iteration begins or behind it.
-  pub record IsApart : Type 0 where
-    pub there : Stands program begin (code.enter_loop f)
-    pub only : (b : ℕ) (g : LoopFields) → Stands program b (code.enter_loop g) → g.loop_id ≡ id → (b ≡ begin) × (g ≡ f)
-    pub silent : flow.live f.exit id ≡ true → ⊥
-    pub enters : (at : ℕ) (g : LoopFields) → Stands program at (code.enter_loop g) → flow.calm at ≡ true → flow.live at id ≡ true → (g.loop_id ≡ id → ⊥)
-        → (k : ℕ) → (k ≡ id → ⊥) → Asked k → k ≡ g.loop_id → ⊥
-    pub turns : (at b : ℕ) (g : LoopFields) → Stands program at (code.loop_again b) → Stands program b (code.enter_loop g) → flow.calm at ≡ true → flow.live at id ≡ true
-        → (g.loop_id ≡ id → ⊥) → (k : ℕ) → (k ≡ id → ⊥) → Asked k → k ≡ g.loop_id → ⊥
-
-  module _ (closed : IsFlow flow program) (apart : IsApart) (lack : ℕ) where
+  module _ (closed : IsFlow flow program) (apart : IsApart flow program begin f) (lack : ℕ) where
     -- what a further iteration of the first state would come to, where the second leads on
     abbrev Given : (o : ℕ) (ls ms : List (ℕ × ℕ)) → Type 0
     Given o ls ms = IsLooser lack o (get_or ls id (0, 0)) (get_or ms id (0, 0)) → suc (get_or ls id (0, 0)).0 ≤ flow.least id
@@ -486,7 +475,7 @@ module _ (flow : Flow) (last : ℕ) (dir : Direction) (program : Program) (input
         let ks : List (ℕ × ℕ) = slice_set ls m begun in
         let js : List (ℕ × ℕ) = slice_set ms m begun in
         let longer = length-set ls m begun in
-        let spared : flow.live at id ≡ true → (m ≡ id → ⊥) → (k : ℕ) → (k ≡ id → ⊥) → Asked k → k ≡ m → ⊥ = apart.enters at g stands calm in
+        let spared : flow.live at id ≡ true → (m ≡ id → ⊥) → (k : ℕ) → (k ≡ id → ⊥) → AskedFor k → k ≡ m → ⊥ = apart.enters at g calm stands in
         let other : (k : ℕ) → ((k ≡ m → ⊥) → flow.live at k ≡ true) → Covered lack k o ks (get_or ks k (0, 0)) (get_or js k (0, 0)) =
         λ k l. written lack k m o ls ms begun begun size (λ e. inl (inl refl)) (λ ne. entries k (l ne))
             (λ ne is. alike-written lack ls m begun (spared (subst (λ j. flow.live at j ≡ true) is (l ne)) (λ e. ne (is ∙ sym e)))) in
@@ -504,8 +493,10 @@ module _ (flow : Flow) (last : ℕ) (dir : Direction) (program : Program) (input
         by_loop (inr foreign) =
             inl (ends-other lack o ls ms gs hs size within at entries b (g, there, told, live, writes, hands)
             (λ h stands' is. foreign (ap (λ (x : LoopFields). x.loop_id) (stands-same b g h there stands') ∙ is))
-            (λ h stands' l. apart.turns at b h stands stands' calm l (λ is. foreign (ap (λ (x : LoopFields). x.loop_id) (stands-same b g h there stands') ∙ is))))
-        by_loop (inl mine) = by_same (apart.only b g there mine)
+            (λ h stands' l. apart.turns at b h calm stands stands' l (λ is. foreign (ap (λ (x : LoopFields). x.loop_id) (stands-same b g h there stands') ∙ is))))
+        by_loop (inl mine) =
+            let is-begin : b ≡ begin = apart.only at b g calm stands there mine in
+            by_same (is-begin, stands-same begin g f (subst (λ c. Stands program c (code.enter_loop g)) is-begin there) apart.there)
           where
             by_same : (b ≡ begin) × (g ≡ f)
                 → AllUnder lack (successors program input (code.loop_again b) dir (whole at o ls gs)) (successors program input (code.loop_again b) dir (whole at o ms hs))
@@ -532,13 +523,13 @@ module _ (flow : Flow) (last : ℕ) (dir : Direction) (program : Program) (input
     under-step i s t both here on given =
         subst (λ (x : ℕ × ℕ). AllUnder lack (successors program input i dir (whole x.0 x.1 s.loops s.groups)) (successors program input i dir t) ⊎ Fails program input dir (successors program input i dir (whole x.0 x.1 s.loops s.groups)))
         (ap₂ (λ (a o : ℕ). (a, o)) (sym both.at) (sym both.offset))
-        (under-on t.offset s.loops t.loops s.groups t.groups both.size both.within t.at both.loops i here both.calm (closed t.at i both.calm here) on given)
+        (under-on t.offset s.loops t.loops s.groups t.groups both.size both.within t.at both.loops i here both.calm (closed.leads t.at i both.calm here) on given)
 
     -- behind a lookaround or an atomic group the data of loops outside are as they were, and cover each other further on
     under-outside : (kind : Submatch) (first high continuation : ℕ) (s t : Whole) → Under lack s t → Stands program t.at (code.submatch kind first high continuation)
         → (o : ℕ) (gs hs : List Marks) → IsOnward last dir t.offset o → Under lack (whole continuation o s.loops gs) (whole continuation o t.loops hs)
     under-outside kind first high continuation s t both here o gs hs on =
-        let (anew, hands) = closed t.at (code.submatch kind first high continuation) both.calm here in
+        let (anew, hands) = closed.leads t.at (code.submatch kind first high continuation) both.calm here in
         record {
           calm = hands.calm;
           at = refl;
@@ -552,7 +543,7 @@ module _ (flow : Flow) (last : ℕ) (dir : Direction) (program : Program) (input
     under-inside : (kind : Submatch) (first high continuation : ℕ) (s t : Whole) → Under lack s t → Stands program t.at (code.submatch kind first high continuation)
         → Agrees flow (onward s) (onward t)
     under-inside kind first high continuation s t both here =
-        let (anew, hands) = closed t.at (code.submatch kind first high continuation) both.calm here in
+        let (anew, hands) = closed.leads t.at (code.submatch kind first high continuation) both.calm here in
         record { calm = anew.calm; at = ap suc both.at; offset = both.offset; size = both.size; loops = λ k l. absurd (anew.silent k l) }
 
     -- Where an iteration begins of a state that has no answer, enough having begun, further iterations have none of a state that has
@@ -562,7 +553,7 @@ module _ (flow : Flow) (last : ℕ) (dir : Direction) (program : Program) (input
         → (o : ℕ) (ms : List (ℕ × ℕ)) (hs : List Marks) (ts : List Whole)
         → us ≡ ordered f.greedy true true (whole (suc begin) o (slice_set ms id (suc (get_or ms id (0, 0)).0, o)) hs) (whole f.exit o ms hs) ++ ts
         → (ls : List (ℕ × ℕ)) (c : ℕ) → id < length ls → length ls ≡ length ms → c ≤ flow.least id → flow.least id < c + lack
-        → ((k : ℕ) → (k ≡ id → ⊥) → Asked k → Covers flow last k dir o (get_or ls k (0, 0)) (get_or ms k (0, 0)))
+        → ((k : ℕ) → (k ≡ id → ⊥) → AskedFor k → Covers flow last k dir o (get_or ls k (0, 0)) (get_or ms k (0, 0)))
         → flow.least id ≤ (get_or ms id (0, 0)).0 → (get_or ms id (0, 0)).0 + 1 + room last dir o < flow.most id
         → flow.calm (suc begin) ≡ true → flow.calm f.exit ≡ true → Again o ls c
 
@@ -575,7 +566,7 @@ module _ (flow : Flow) (last : ℕ) (dir : Direction) (program : Program) (input
       -- what is asked of it at the end of an iteration
       given-on : (ts : List Whole) (n : ℕ) (r : Option Whole) (i : Instruction) (s t : Whole) → Under lack s t → Stands program t.at i → Run program input dir (successors program input i dir t ++ ts) n r → r ≡ None
           → IsSteady program input last dir (successors program input i dir t ++ ts) → Stands program t.at (code.loop_again begin) → Given t.offset s.loops t.loops
-      given-on ts n r i s t both here next none steady here' looser few = by_flow (closed t.at (code.loop_again begin) both.calm here')
+      given-on ts n r i s t both here next none steady here' looser few = by_flow (closed.leads t.at (code.loop_again begin) both.calm here')
         where
           o : ℕ
           o = t.offset
@@ -610,7 +601,7 @@ module _ (flow : Flow) (last : ℕ) (dir : Direction) (program : Program) (input
                       successors-of (Some j) = successors program input j dir t
                       successors-of None = []
 
-                      lives : (k : ℕ) → (k ≡ id → ⊥) → Asked k → flow.live t.at k ≡ true
+                      lives : (k : ℕ) → (k ≡ id → ⊥) → AskedFor k → flow.live t.at k ≡ true
                       lives k ne (inl l) = writes.live k ne l
                       lives k ne (inr l) = hands.live k l
 
@@ -622,7 +613,7 @@ module _ (flow : Flow) (last : ℕ) (dir : Direction) (program : Program) (input
       less-fails (finds here) none steady (s ∷ ss) under = absurd (cc)
       less-fails {r = r} (goes {i = i} {s = t} {ss = ts} {n = n} here plain next) none steady (s ∷ ss) (inl both) =
           let steady' : IsSteady program input last dir (successors program input i dir t ++ ts) = λ u j met. steady u j (later here plain met) in
-          by_step (under-step i s t both.0 here (steady t i now here plain (flows-unreferring flow program t.at i (closed t.at i both.0.calm here)) dir)
+          by_step (under-step i s t both.0 here (steady t i now here plain (flows-unreferring flow program t.at i (closed.leads t.at i both.0.calm here)) dir)
           (given-on ts n r i s t both.0 here next none steady')) (less-fails next none steady')
         where
           stands : Stands program s.at i
@@ -653,7 +644,7 @@ module _ (flow : Flow) (last : ℕ) (dir : Direction) (program : Program) (input
       less-fails (looks {kind = kind} {first = first} {last = high} {continuation = continuation} {s = t} {ss = ts} {m = m} {q = q} here inner next) none steady (s ∷ ss) (inr skipped) =
           less-fails next none (λ v j met. steady v j (behind here (m, inner) met)) (s ∷ ss) (under-skip lack (after_submatch kind first high continuation t q) (s ∷ ss) ts skipped)
 
-  module _ (closed : IsFlow flow program) (apart : IsApart) where
+  module _ (closed : IsFlow flow program) (apart : IsApart flow program begin f) where
     -- a state is under one of two
     under-first : (lack : ℕ) (g : Bool) (x z e : Whole) (ts : List Whole) → Under lack x z → AllUnder lack (x ∷ []) (ordered g true true z e ++ ts)
     under-first lack true x z e ts under = inl (under, under-none lack (e ∷ ts))
@@ -681,7 +672,7 @@ module _ (flow : Flow) (last : ℕ) (dir : Direction) (program : Program) (input
         fails : (x : Whole) → AllUnder lack (x ∷ []) (ordered f.greedy true true again left ++ ts) → Fails program input dir (x ∷ [])
         fails x under = less-fails closed apart lack before run none steady (x ∷ []) (subst (AllUnder lack (x ∷ [])) (sym is) under)
 
-        covers' : (ks : List (ℕ × ℕ)) → Alike ls ks → (k : ℕ) → (k ≡ id → ⊥) → Asked k → Covers flow last k dir o (get_or ks k (0, 0)) (get_or ms k (0, 0))
+        covers' : (ks : List (ℕ × ℕ)) → Alike ls ks → (k : ℕ) → (k ≡ id → ⊥) → AskedFor k → Covers flow last k dir o (get_or ks k (0, 0)) (get_or ms k (0, 0))
         covers' ks alike k ne asked = subst (λ x. Covers flow last k dir o x (get_or ms k (0, 0))) (alike k ne asked) (covers k ne asked)
 
         gone : (ks : List (ℕ × ℕ)) (gs : List Marks) → length ks ≡ length ls → Alike ls ks → Under lack (whole f.exit o ks gs) left

@@ -16,6 +16,7 @@ pub record Table : Type 0 where
   pub scopes : List ℕ
   pub loops : List (List ℕ)
   pub bounds : List (ℕ × ℕ)
+  pub padded : Option (ℕ × ℕ)
 
 module _ (t : Table) where
   -- an address is calm
@@ -37,6 +38,7 @@ module _ (t : Table) where
     live = λ a id. holds (live_at a) id;
     least = λ id. (bounds_of id).0;
     most = λ id. (bounds_of id).1;
+    padded = t.padded;
   }
 
   -- it is led from one address to another with the data of all loops as they are
