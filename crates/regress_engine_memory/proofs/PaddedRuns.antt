@@ -177,14 +177,17 @@ module _ (flow : Flow) (last : ℕ) (dir : Direction) (program : Program) (input
     covered-alike k o ls ks x y size alike (inl covers) = inl covers
     covered-alike k o ls ks x y size alike (inr (is, inl looser)) = inr (is, inl looser)
     covered-alike k o ls ks x y size alike (inr (is, inr fresher)) =
-        inr (is, inr (record {
-          here = fresher.here;
-          entered = fresher.entered;
-          enough = fresher.enough;
-          more = fresher.more;
-          lacks = fresher.lacks;
-          again = again-alike o ls ks x.0 size (alike is) fresher.again;
-        }))
+        inr (
+          is,
+          inr (record {
+            here = fresher.here;
+            entered = fresher.entered;
+            enough = fresher.enough;
+            more = fresher.more;
+            lacks = fresher.lacks;
+            again = again-alike o ls ks x.0 size (alike is) fresher.again;
+          }),
+        )
 
     -- a loop is written of which nothing is asked there, or this one
     alike-written : (ls : List (ℕ × ℕ)) (m : ℕ) (v : ℕ × ℕ) → ((k : ℕ) → (k ≡ id → ⊥) → AskedFor k → k ≡ m → ⊥) → Alike ls (slice_set ls m v)
@@ -380,7 +383,7 @@ module _ (flow : Flow) (last : ℕ) (dir : Direction) (program : Program) (input
         -- an iteration of this one ends
         ends-mine : Stands program begin (code.enter_loop f) → IsToldOf flow f → (live : flow.live at id ≡ true) → Writes flow id at (suc begin) → Hands flow at f.exit
             → (IsLooser lack o (get_or ls id (0, 0)) (get_or ms id (0, 0)) → suc (get_or ls id (0, 0)).0 ≤ flow.least id
-                → Again o (slice_set ls id (suc (get_or ls id (0, 0)).0, o)) (suc (get_or ls id (0, 0)).0))
+            → Again o (slice_set ls id (suc (get_or ls id (0, 0)).0, o)) (suc (get_or ls id (0, 0)).0))
             → AllUnder lack (successors program input (code.loop_again begin) dir s) (successors program input (code.loop_again begin) dir t) ⊎ Fails program input dir (successors program input (code.loop_again begin) dir s)
         ends-mine there told live writes hands again = by_sides (entries id live)
           where
@@ -478,7 +481,7 @@ module _ (flow : Flow) (last : ℕ) (dir : Direction) (program : Program) (input
         let spared : flow.live at id ≡ true → (m ≡ id → ⊥) → (k : ℕ) → (k ≡ id → ⊥) → AskedFor k → k ≡ m → ⊥ = apart.enters at g calm stands in
         let other : (k : ℕ) → ((k ≡ m → ⊥) → flow.live at k ≡ true) → Covered lack k o ks (get_or ks k (0, 0)) (get_or js k (0, 0)) =
         λ k l. written lack k m o ls ms begun begun size (λ e. inl (inl refl)) (λ ne. entries k (l ne))
-            (λ ne is. alike-written lack ls m begun (spared (subst (λ j. flow.live at j ≡ true) is (l ne)) (λ e. ne (is ∙ sym e)))) in
+        (λ ne is. alike-written lack ls m begun (spared (subst (λ j. flow.live at j ≡ true) is (l ne)) (λ e. ne (is ∙ sym e)))) in
         let same : get_or ks m (0, 0) ≡ get_or js m (0, 0) =
         set-both (λ x y. x ≡ y) ls ms m m begun begun size (λ z. refl) (λ e. refl) (λ ne. absurd (ne refl)) in
         inl (same-choices lack o ks js gs hs (longer ∙ size ∙ sym (length-set ms m begun)) (omega (arith, longer, within)) g at at (ap (λ (x : ℕ × ℕ). x.0) same)

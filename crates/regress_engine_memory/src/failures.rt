@@ -265,7 +265,10 @@ impl Failures {
         ensures known { (program : Program) → (input : Input) → AreKnown program input self.old
             → FailsIfFree program input (keyed_of (table_of self.old.table)) last spot.now (map loop_of loops.now) → AreKnown program input self.new }
     {
-        if !self.table.is_calm(spot.at) || !self.table.are_free(loops, spot, last) {
+        if !self.table.is_calm(spot.at)
+            || !self.table.are_free(loops, spot, last)
+            || !self.table.has_begun(loops, spot.at)
+        {
             return;
         }
         if let Some(k) = self.plane_of(spot, false, loops) {
