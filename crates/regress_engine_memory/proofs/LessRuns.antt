@@ -24,11 +24,11 @@ use Rattle.regress_engine_memory.proofs.SameRuns.{same-run}
 use Rattle.regress_engine_memory.proofs.Onward.{room-less, past-on, further-past, past-differs, flows-unreferring, ends-onward}
 
 -- an iteration that has begun here past the least number is idle
-idle-here : (least o : ℕ) (x : ℕ × ℕ) → least < x.0 → x.1 ≡ o → (nat_lt least x.0 && (x.1 == o)) ≡ true
+pub idle-here : (least o : ℕ) (x : ℕ × ℕ) → least < x.0 → x.1 ≡ o → (nat_lt least x.0 && (x.1 == o)) ≡ true
 idle-here least o x past here = ap₂ (λ (a b : Bool). a && b) (lt-ltb least x.0 past) (eq-eqb x.1 o here)
 
 -- one that has taken something, or that is not past it, is not
-busy : (least : ℕ) (dir : Direction) (o : ℕ) (y : ℕ × ℕ) → (y.0 ≤ least) ⊎ IsPast dir y.1 o → (nat_lt least y.0 && (y.1 == o)) ≡ false
+pub busy : (least : ℕ) (dir : Direction) (o : ℕ) (y : ℕ × ℕ) → (y.0 ≤ least) ⊎ IsPast dir y.1 o → (nat_lt least y.0 && (y.1 == o)) ≡ false
 busy least dir o y (inl few) = ap (λ (b : Bool). b && (y.1 == o)) (le-ltb least y.0 few)
 busy least dir o y (inr past) = by_test (nat_lt least y.0) (ne_eqb y.1 o (past-differs dir y.1 o past))
   where
@@ -93,11 +93,11 @@ module _ (flow : Flow) (last : ℕ) (dir : Direction) where
   -- ---- the data of loops
 
   -- further on
-  moved-on : (id o q : ℕ) (y : ℕ × ℕ) → IsFurther last dir o q → HasMoved flow last id dir o y → HasMoved flow last id dir q y
+  pub moved-on : (id o q : ℕ) (y : ℕ × ℕ) → IsFurther last dir o q → HasMoved flow last id dir o y → HasMoved flow last id dir q y
   moved-on id o q y further (inl few) = inl few
   moved-on id o q y further (inr past) = inr (past-on last dir y.1 o q past further)
 
-  covers-on : (id o q : ℕ) (x y : ℕ × ℕ) → IsOnward last dir o q → Covers flow last id dir o x y → Covers flow last id dir q x y
+  pub covers-on : (id o q : ℕ) (x y : ℕ × ℕ) → IsOnward last dir o q → Covers flow last id dir o x y → Covers flow last id dir q x y
   covers-on id o q x y (inl same) covers = subst (λ p. Covers flow last id dir p x y) (sym same) covers
   covers-on id o q x y (inr further) (inl same) = inl same
   covers-on id o q x y (inr further) (inr (inl even)) = inr (inl (record { counts = even.counts; moved = moved-on id o q y further even.moved }))
@@ -113,7 +113,7 @@ module _ (flow : Flow) (last : ℕ) (dir : Direction) where
       inr (inr (inl (record { begun = omega (arith, begun); enough = fresh.enough; more = omega (arith, less, more); moved = inr past })))
 
   -- one more iteration begins of both
-  covers-begun : (id o : ℕ) (x y : ℕ × ℕ) → IsLoose flow last id dir o x y → Covers flow last id dir o (suc x.0, o) (suc y.0, o)
+  pub covers-begun : (id o : ℕ) (x y : ℕ × ℕ) → IsLoose flow last id dir o x y → Covers flow last id dir o (suc x.0, o) (suc y.0, o)
   covers-begun id o x y loose =
       let begun = loose.begun in
       let enough = loose.enough in
@@ -328,13 +328,13 @@ module _ (flow : Flow) (last : ℕ) (program : Program) (input : Input) (closed 
   under-step dir i s t both here on =
       subst (λ (x : ℕ × ℕ). AreUnder flow last dir (successors program input i dir (whole x.0 x.1 s.loops s.groups)) (successors program input i dir t))
       (ap₂ (λ (a o : ℕ). (a, o)) (sym both.at) (sym both.offset))
-      (under-on flow last dir program input t.offset s.loops t.loops s.groups t.groups both.size t.at both.loops i (closed t.at i both.calm here) on)
+      (under-on flow last dir program input t.offset s.loops t.loops s.groups t.groups both.size t.at both.loops i (closed.leads t.at i both.calm here) on)
 
   -- behind a lookaround or an atomic group the data of loops outside are as they were, and cover each other further on
   under-outside : (dir : Direction) (kind : Submatch) (first high continuation : ℕ) (s t : Whole) → IsUnder flow last dir s t → Stands program t.at (code.submatch kind first high continuation)
       → (o : ℕ) (gs hs : List Marks) → IsOnward last dir t.offset o → IsUnder flow last dir (whole continuation o s.loops gs) (whole continuation o t.loops hs)
   under-outside dir kind first high continuation s t both here o gs hs on =
-      let (anew, hands) = closed t.at (code.submatch kind first high continuation) both.calm here in
+      let (anew, hands) = closed.leads t.at (code.submatch kind first high continuation) both.calm here in
       record {
         calm = hands.calm;
         at = refl;
@@ -347,7 +347,7 @@ module _ (flow : Flow) (last : ℕ) (program : Program) (input : Input) (closed 
   under-inside : (dir : Direction) (kind : Submatch) (first high continuation : ℕ) (s t : Whole) → IsUnder flow last dir s t → Stands program t.at (code.submatch kind first high continuation)
       → Agrees flow (onward s) (onward t)
   under-inside dir kind first high continuation s t both here =
-      let (anew, hands) = closed t.at (code.submatch kind first high continuation) both.calm here in
+      let (anew, hands) = closed.leads t.at (code.submatch kind first high continuation) both.calm here in
       record { calm = anew.calm; at = ap suc both.at; offset = both.offset; size = both.size; loops = λ id l. absurd (anew.silent id l) }
 
   -- States that are under some that have no answer have none.
@@ -359,7 +359,7 @@ module _ (flow : Flow) (last : ℕ) (program : Program) (input : Input) (closed 
   less-fails (goes {dir = dir} {i = i} {s = t} {ss = ts} here plain next) none steady (s ∷ ss) (inl both) =
       let rest = less-fails next none (λ u j met. steady u j (later here plain met)) (successors program input i dir s ++ ss)
       (under-append flow last dir (successors program input i dir t) (successors program input i dir s) ss ts
-      (under-step dir i s t both.0 here (steady t i now here plain (flows-unreferring flow program t.at i (closed t.at i both.0.calm here)) dir)) both.1) in
+      (under-step dir i s t both.0 here (steady t i now here plain (flows-unreferring flow program t.at i (closed.leads t.at i both.0.calm here)) dir)) both.1) in
       (suc rest.0, goes (subst (λ a. Stands program a i) (sym both.0.at) here) plain rest.1)
   less-fails (goes {dir = dir} {i = i} {s = t} {ss = ts} here plain next) none steady (s ∷ ss) (inr skipped) =
       less-fails next none (λ u j met. steady u j (later here plain met)) (s ∷ ss) (under-skip flow last dir (successors program input i dir t) (s ∷ ss) ts skipped)

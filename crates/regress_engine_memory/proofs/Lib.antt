@@ -6,6 +6,7 @@ pub mod SameRuns
 pub mod EachState
 pub mod Onward
 pub mod LessRuns
+mod PaddedRuns
 pub mod Forgetting
 pub mod Exits
 pub mod Taking

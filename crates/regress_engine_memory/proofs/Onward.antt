@@ -97,7 +97,7 @@ module _ (flow : Flow) (last : ℕ) (program : Program) (input : Input) (closed 
       let new : List Whole = successors program input i dir t in
       ends-onward next o (agree-append flow new new ts ts (agree-step flow program input closed dir i t t calm.0 here) calm.1)
       (each-append (λ u. IsOnward last dir o u.offset) new ts
-      (onward-all last dir o t.offset on.0 new (steady t i now here plain (flows-unreferring flow program t.at i (closed t.at i calm.0.calm here)) dir)) on.1)
+      (onward-all last dir o t.offset on.0 new (steady t i now here plain (flows-unreferring flow program t.at i (closed.leads t.at i calm.0.calm here)) dir)) on.1)
       (λ u j met. steady u j (later here plain met))
   ends-onward (looks {dir = dir} {kind = kind} {first = low} {last = high} {continuation = continuation} {s = t} {ss = ts} {m = m} {q = q} here inner next) o calm on steady =
       let new : List Whole = after_submatch kind low high continuation t q in

@@ -1,6 +1,6 @@
 -- Planes of bits: one more plane, and one more bit.
 use Rattle.std.specs.Prelude.{slice_get, slice_set}
-use Rattle.std.proofs.Common.{◌≡◌, ℕ, zero, suc, ◌+◌, ◌<◌, ◌||◌, ◌==◌, ◌⊎◌, inl, inr, Bool, true, false, List, [], ◌∷◌, ◌++◌, length, get_or, Some, refl, sym, ap, ◌∙◌, subst, arith}
+use Rattle.std.proofs.Common.{◌≡◌, ℕ, zero, suc, ◌+◌, ◌<◌, ◌≤◌, ◌||◌, ◌==◌, ◌⊎◌, inl, inr, Bool, true, false, List, [], ◌∷◌, ◌++◌, length, get_or, Some, refl, sym, ap, ◌∙◌, subst, arith}
 use Rattle.std.proofs.lemmas.Bool.{cases_eq, or_cases, eqb-true, true≢false}
 use Rattle.std.proofs.lemmas.Option.{slice_get_within}
 use Rattle.regress_meaning.specs.Inputs.{Input}
@@ -125,10 +125,11 @@ found-fails program input old new s further loops planes k p table there is fail
 pub plane-fails : (program : Program) (input : Input) (t : Table) (last : ℕ) (s : Spot) (loops : List (ℕ × ℕ)) (p : Plane) → IsPlaneOf t s false loops p → calm_at t s.at ≡ true
     → ((id : ℕ) → holds (live_at t s.at) id ≡ true → HasMoved (flow_of t) last id (direction_of s.forward) s.offset (get_or loops id (0, 0)))
     → ((id : ℕ) → holds (live_at t s.at) id ≡ true → (keyed_of t).counted id ≡ false → (get_or loops id (0, 0)).0 + 1 + room last (direction_of s.forward) s.offset < (flow_of t).most id)
+    → ((id begin : ℕ) → (flow_of t).padded ≡ Some (id, begin) → holds (live_at t s.at) id ≡ true → (id < length loops) × ((flow_of t).least id ≤ (get_or loops id (0, 0)).0))
     → FailsIfFree program input (keyed_of t) last s loops → FailsIn program input t p s.offset
-plane-fails program input t last s loops p is calm moved more fails =
+plane-fails program input t last s loops p is calm moved more begun fails =
     in-plane program input t s false loops p is
-    (fails calm (class_in (live_at t s.at) p.classes.items) (record { key = λ id l. is.2 id l; moved = λ id l. moved id l; room = λ id l c. more id l c }))
+    (fails calm (class_in (live_at t s.at) p.classes.items) (record { key = λ id l. is.2 id l; moved = λ id l. moved id l; room = λ id l c. more id l c; begun = λ id b is l. begun id b is l }))
 
 -- that of exits is told of them all
 pub exits-fail : (program : Program) (input : Input) (t : Table) (s : Spot) (loops : List (ℕ × ℕ)) (p : Plane) → IsPlaneOf t s true loops p

@@ -42,7 +42,7 @@ unfolding run after_times as_far one_by_one back_to
 goes-there = refl
 
 -- its table: in the body its loop is live
-empty-flows : is_flow (record { calm = true ∷ true ∷ true ∷ true ∷ true ∷ true ∷ []; scopes = 0 ∷ 1 ∷ 1 ∷ 1 ∷ 0 ∷ 0 ∷ []; loops = [] ∷ (0 ∷ []) ∷ []; bounds = (0, 1000) ∷ [] }) empty_turns ≡ true
+empty-flows : is_flow (record { calm = true ∷ true ∷ true ∷ true ∷ true ∷ true ∷ []; scopes = 0 ∷ 1 ∷ 1 ∷ 1 ∷ 0 ∷ 0 ∷ []; loops = [] ∷ (0 ∷ []) ∷ []; bounds = (0, 1000) ∷ []; padded = None }) empty_turns ≡ true
 empty-flows = refl
 
 -- `(x+x+)+y`
@@ -61,6 +61,7 @@ turns-flow : is_flow (record {
   scopes = 0 ∷ 1 ∷ 1 ∷ 1 ∷ 1 ∷ 1 ∷ 1 ∷ 1 ∷ 1 ∷ 0 ∷ 0 ∷ [];
   loops = [] ∷ (0 ∷ []) ∷ [];
   bounds = (1, 1000) ∷ [];
+  padded = None;
 }) turns ≡ true
 turns-flow = refl
 
@@ -82,6 +83,7 @@ atomic-flows : is_flow (record {
   scopes = 0 ∷ 1 ∷ 0 ∷ 2 ∷ 2 ∷ 2 ∷ 0 ∷ 1 ∷ 1 ∷ 0 ∷ 0 ∷ [];
   loops = [] ∷ (0 ∷ []) ∷ (1 ∷ []) ∷ [];
   bounds = (0, 1000) ∷ (0, 1000) ∷ [];
+  padded = None;
 }) atomic_turns ≡ true
 atomic-flows = refl
 
@@ -91,5 +93,6 @@ atomic-shared : is_flow (record {
   scopes = 0 ∷ 1 ∷ 1 ∷ 2 ∷ 2 ∷ 2 ∷ 1 ∷ 1 ∷ 1 ∷ 0 ∷ 0 ∷ [];
   loops = [] ∷ (0 ∷ []) ∷ (0 ∷ 1 ∷ []) ∷ [];
   bounds = (0, 1000) ∷ (0, 1000) ∷ [];
+  padded = None;
 }) atomic_turns ≡ false
 atomic-shared = refl

@@ -156,20 +156,20 @@ module _ (flow : Flow) where
     agree-step dir i s t both here =
         subst (λ (x : ℕ × ℕ). AgreeAll flow (successors program input i dir (whole x.0 x.1 s.loops s.groups)) (successors program input i dir t))
         (ap₂ (λ (a o : ℕ). (a, o)) (sym both.at) (sym both.offset))
-        (agree-on program input dir t.offset s.loops t.loops s.groups t.groups both.size t.at both.loops i (closed t.at i both.calm here))
+        (agree-on program input dir t.offset s.loops t.loops s.groups t.groups both.size t.at both.loops i (closed.leads t.at i both.calm here))
 
     -- where the contents of a lookaround or an atomic group begin, nothing is asked of the loops
     pub agree-inside : (kind : Submatch) (first last continuation : ℕ) (s t : Whole) → Agrees flow s t → Stands program t.at (code.submatch kind first last continuation)
         → Agrees flow (onward s) (onward t)
     agree-inside kind first last continuation s t both here =
-        let (anew, hands) = closed t.at (code.submatch kind first last continuation) both.calm here in
+        let (anew, hands) = closed.leads t.at (code.submatch kind first last continuation) both.calm here in
         record { calm = anew.calm; at = ap suc both.at; offset = both.offset; size = both.size; loops = λ id l. absurd (anew.silent id l) }
 
     -- and where it goes on what was asked of those outside, at whatever offset
     pub agree-outside : (kind : Submatch) (first last continuation : ℕ) (s t : Whole) → Agrees flow s t → Stands program t.at (code.submatch kind first last continuation)
         → (o : ℕ) (gs hs : List Marks) → Agrees flow (whole continuation o s.loops gs) (whole continuation o t.loops hs)
     agree-outside kind first last continuation s t both here o gs hs =
-        let (anew, hands) = closed t.at (code.submatch kind first last continuation) both.calm here in
+        let (anew, hands) = closed.leads t.at (code.submatch kind first last continuation) both.calm here in
         record { calm = hands.calm; at = refl; offset = refl; size = both.size; loops = λ id l. both.loops id (hands.live id l) }
 
     -- where the second one stands the first one does

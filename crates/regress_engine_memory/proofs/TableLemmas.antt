@@ -8,7 +8,7 @@ use Rattle.regress_engine_insn.specs.Instructions.{Instruction, Program, Stands}
 use Rattle.regress_engine_insn.specs.InsnViews.{instruction}
 use Rattle.regress_engine_insn.specs.declared.insn.Insn.{Insn}
 use Rattle.regress_engine_memory.specs.Passing.{all_pass}
-use Rattle.regress_engine_memory.specs.Deciding.{Table, calm_at, flows, flows_if_calm}
+use Rattle.regress_engine_memory.specs.Deciding.{Table, calm_at, leads, leads_if_calm}
 
 module _ (test : ℕ → Instruction → Bool) where
   from-pass : (is : List Instruction) (base : ℕ) → all_pass test base is ≡ true → (k : ℕ) (i : Instruction) → slice_get is k ≡ Some i → test (base + k) i ≡ true
@@ -50,13 +50,13 @@ module _ (test : ℕ → Instruction → Bool) where
 
 module _ (t : Table) (program : Program) (at : ℕ) (i : Instruction) where
   -- what leads on otherwise at a calm address does not pass
-  pub flows-not : calm_at t at ≡ true → flows t program at i ≡ false → flows_if_calm t program at i ≡ false
-  flows-not calm none = ap (λ b. not b || flows t program at i) calm ∙ none
+  pub leads-not : calm_at t at ≡ true → leads t program at i ≡ false → leads_if_calm t program at i ≡ false
+  leads-not calm none = ap (λ b. not b || leads t program at i) calm ∙ none
 
   -- what leads on as it is told there, if it is calm, passes
-  pub flows-too : (calm_at t at ≡ true → flows t program at i ≡ true) → flows_if_calm t program at i ≡ true
-  flows-too leads = by_calm (calm_at t at) leads
+  pub leads-too : (calm_at t at ≡ true → leads t program at i ≡ true) → leads_if_calm t program at i ≡ true
+  leads-too so = by_calm (calm_at t at) so
     where
-      by_calm : (b : Bool) → (b ≡ true → flows t program at i ≡ true) → (not b || flows t program at i) ≡ true
+      by_calm : (b : Bool) → (b ≡ true → leads t program at i ≡ true) → (not b || leads t program at i) ≡ true
       by_calm true f = f refl
       by_calm false f = refl

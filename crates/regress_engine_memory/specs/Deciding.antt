@@ -16,6 +16,7 @@ pub record Table : Type 0 where
   pub scopes : List ℕ
   pub loops : List (List ℕ)
   pub bounds : List (ℕ × ℕ)
+  pub padded : Option (ℕ × ℕ)
 
 module _ (t : Table) where
   -- an address is calm
@@ -37,6 +38,7 @@ module _ (t : Table) where
     live = λ a id. holds (live_at a) id;
     least = λ id. (bounds_of id).0;
     most = λ id. (bounds_of id).1;
+    padded = t.padded;
   }
 
   -- it is led from one address to another with the data of all loops as they are
@@ -74,10 +76,46 @@ module _ (t : Table) where
   flows program at (code.submatch kind first last continuation) = begins_anew (suc at) && hands at continuation
   flows program at _ = hands at (suc at)
 
-  -- it does where its address is calm
-  abbrev pub flows_if_calm : Program → (at : ℕ) → Instruction → Bool
-  flows_if_calm program at i = not (calm_at at) || flows program at i
+  -- where a loop's data may be asked for, no others are written that are asked for where an iteration of its repetition begins or behind it
+  abbrev pub spares : (begin : ℕ) → LoopFields → (at written : ℕ) → Bool
+  spares begin f at written =
+      not (holds (live_at at) f.loop_id) || ((written == f.loop_id) || (not (holds (live_at (suc begin)) written) && not (holds (live_at f.exit) written)))
+
+  -- an instruction at an address leaves a repetition apart
+  abbrev pub keeps_apart : Program → (begin : ℕ) → LoopFields → (at : ℕ) → Instruction → Bool
+  keeps_apart program begin f at (code.enter_loop g) = spares begin f at g.loop_id
+  keeps_apart program begin f at (code.loop_again b) = elim (fields_of (slice_get program.instructions b)) [
+    | None ↦ true
+    | Some g ↦ (not (g.loop_id == f.loop_id) || (b == begin)) && spares begin f at g.loop_id
+  ]
+  keeps_apart program begin f at _ = true
+
+  -- the one whose counts need not be told apart
+  abbrev pub keeps : Program → (at : ℕ) → Instruction → Bool
+  keeps program at i = elim t.padded [
+    | None ↦ true
+    | Some p ↦ elim (fields_of (slice_get program.instructions p.1)) [ None ↦ false | Some f ↦ keeps_apart program p.1 f at i ]
+  ]
+
+  -- an instruction at an address is as it is told
+  abbrev pub leads : Program → (at : ℕ) → Instruction → Bool
+  leads program at i = flows program at i && keeps program at i
+
+  -- it is where its address is calm
+  abbrev pub leads_if_calm : Program → (at : ℕ) → Instruction → Bool
+  leads_if_calm program at i = not (calm_at at) || leads program at i
+
+  -- all instructions are
+  abbrev pub lead_on : Program → Bool
+  lead_on program = all_pass (leads_if_calm program) 0 program.instructions
+
+  -- the repetition whose counts need not be told apart stands where it is told, and nothing is asked of its loop behind it
+  abbrev pub stands_apart : Program → Bool
+  stands_apart program = elim t.padded [
+    | None ↦ true
+    | Some p ↦ elim (fields_of (slice_get program.instructions p.1)) [ None ↦ false | Some f ↦ (f.loop_id == p.0) && not (holds (live_at f.exit) f.loop_id) ]
+  ]
 
   -- the table is that of the program
   abbrev pub is_flow : Program → Bool
-  is_flow program = all_pass (flows_if_calm program) 0 program.instructions
+  is_flow program = stands_apart program && lead_on program

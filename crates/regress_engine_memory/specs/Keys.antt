@@ -1,5 +1,5 @@
 -- What is known of an address and an offset, by how many iterations have begun as far as that matters.
-use Rattle.std.specs.Prelude.{◌≡◌, ℕ, ◌+◌, ◌<◌, Bool, true, false, List, [], ◌∷◌, length, All, None, get_or, if◌then◌else◌, min}
+use Rattle.std.specs.Prelude.{◌≡◌, ℕ, ◌+◌, ◌<◌, ◌≤◌, ◌==◌, Bool, true, false, List, [], ◌∷◌, length, All, Some, None, get_or, if◌then◌else◌, min}
 use Rattle.regress_meaning.specs.Meaning.{Direction}
 use Rattle.regress_meaning.specs.Inputs.{Input}
 use Rattle.regress_engine_insn.specs.Instructions.{Instruction, Program, Stands}
@@ -15,9 +15,14 @@ pub record Keyed : Type 0 where
   pub flow : Flow
   pub counted : ℕ → Bool
 
--- how many iterations of a loop have begun, as far as a key tells: of one that is counted the number, of another up to the least
+-- a loop's counts need not be told apart
+abbrev pub is_padded : Flow → ℕ → Bool
+is_padded flow id = elim flow.padded [ None ↦ false | Some p ↦ p.0 == id ]
+
+-- how many iterations of a loop have begun, as far as a key tells: of one that is counted the number, of another up to the least, and
+-- nothing of the one whose counts need not be told apart
 abbrev pub class_of : Keyed → (id count : ℕ) → ℕ
-class_of keyed id c = if keyed.counted id then c else min c (keyed.flow.least id)
+class_of keyed id c = if keyed.counted id then c else if is_padded keyed.flow id then 0 else min c (keyed.flow.least id)
 
 -- An address and an offset, read in a direction, and of each loop that is live there the class of its count.
 pub record Key : Type 0 where
@@ -39,11 +44,17 @@ abbrev pub HaveRoom : Keyed → (last : ℕ) → Key → List (ℕ × ℕ) → T
 HaveRoom keyed last k loops = (id : ℕ) → keyed.flow.live k.at id ≡ true → keyed.counted id ≡ false
     → (get_or loops id (0, 0)).0 + 1 + room last k.dir k.offset < keyed.flow.most id
 
+-- of the one whose counts are not told apart enough have begun
+abbrev pub HaveBegun : Keyed → Key → List (ℕ × ℕ) → Type 0
+HaveBegun keyed k loops = (id begin : ℕ) → keyed.flow.padded ≡ Some (id, begin) → keyed.flow.live k.at id ≡ true
+    → (id < length loops) × (keyed.flow.least id ≤ (get_or loops id (0, 0)).0)
+
 -- Loops show that no state with a key may do more: they have its classes, may end their iterations, and begin more.
 pub record AreFree (keyed : Keyed) (last : ℕ) (k : Key) (loops : List (ℕ × ℕ)) : Type 0 where
   pub key : HaveKey keyed k loops
   pub moved : HaveMoved keyed last k loops
   pub room : HaveRoom keyed last k loops
+  pub begun : HaveBegun keyed k loops
 
 module _ (program : Program) (input : Input) where
   -- each state that a run meets at an instruction that refers to no group leads only onward, whichever way it is read

@@ -1,10 +1,10 @@
 //! The classes of the counts of loops, and when loops show that no state with the same classes may do more.
-ghost use Rattle.std.specs.Prelude.{◌≡◌, ◌+◌, ◌<◌, ℕ, true, false, get_or, map};
+ghost use Rattle.std.specs.Prelude.{◌≡◌, ◌+◌, ◌<◌, ◌≤◌, ℕ, Some, true, false, get_or, length, map};
 ghost use Rattle.regress_meaning.specs.Text.{holds};
 ghost use Rattle.regress_engine_input.specs.Views.{direction_of};
 ghost use Rattle.regress_engine_search.specs.StateViews.{loop_of};
 ghost use Rattle.regress_engine_memory.specs.Deciding.{flow_of, live_at};
-ghost use Rattle.regress_engine_memory.specs.Keys.{class_of};
+ghost use Rattle.regress_engine_memory.specs.Keys.{class_of, is_padded};
 ghost use Rattle.regress_engine_memory.specs.Remembered.{HaveClasses, keyed_of};
 ghost use Rattle.regress_engine_memory.specs.TableViews.{table_of};
 ghost use Rattle.regress_engine_memory.specs.Under.{HasMoved, room};
@@ -43,6 +43,31 @@ fn room_left(last: usize, spot: &Spot) -> usize
 }
 
 impl FlowTable {
+    /// Whether a loop's counts need not be told apart.
+    fn is_padded(&self, id: usize) -> bool
+        ensures { result ≡ is_padded (flow_of (table_of self.now)) id }
+    {
+        match self.padded {
+            None => false,
+            Some(padded) => padded.loop_id as usize == id,
+        }
+    }
+
+    /// Whether enough iterations have begun of the loop whose counts need not be told apart, where it is live.
+    pub(crate) fn has_begun(&self, loops: &[LoopData<usize>], at: usize) -> bool
+        ensures { result ≡ true → (id : ℕ) → (begin : ℕ) → (flow_of (table_of self.now)).padded ≡ Some (id, begin) → holds (live_at (table_of self.now) at) id ≡ true
+            → (id < length loops.now) × ((flow_of (table_of self.now)).least id ≤ (get_or (map loop_of loops.now) id (0, 0)).0) }
+    {
+        match self.padded {
+            None => true,
+            Some(padded) => {
+                let id = padded.loop_id as usize;
+                !self.is_live(at, id)
+                    || (id < loops.len() && self.bounds(id).least <= data_of(loops, id).iters)
+            }
+        }
+    }
+
     /// How many iterations of a loop have begun, as far as it matters.
     pub(crate) fn class(&self, id: usize, count: usize) -> usize
         ensures { result ≡ class_of (keyed_of (table_of self.now)) id count }
@@ -50,6 +75,8 @@ impl FlowTable {
         let bounds = self.bounds(id);
         if bounds.most <= MOST_COUNTED {
             count
+        } else if self.is_padded(id) {
+            0
         } else {
             count.min(bounds.least)
         }
@@ -74,6 +101,13 @@ impl FlowTable {
             }
         }
         true
+    }
+
+    /// Whether there is a loop of which more than two classes are told apart.
+    pub(crate) fn has_many_classes(&self) -> bool {
+        self.bounds
+            .iter()
+            .any(|bounds| bounds.most <= MOST_COUNTED || bounds.least > 1)
     }
 
     /// A number for a key and for the classes of the loops that are live at an address. Classes that follow one another give numbers

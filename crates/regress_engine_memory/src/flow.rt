@@ -2,16 +2,17 @@
 ghost use Rattle.std.specs.Prelude.{◌≡◌, ◌+◌, ◌^◌, ◌<◌, ◌∷◌, is_some, map, option_and_then, slice_get};
 ghost use Rattle.std.specs.List.{list_all};
 ghost use Rattle.regress_meaning.specs.Text.{holds};
-ghost use Rattle.regress_engine_insn.specs.Instructions.{Program};
+ghost use Rattle.regress_engine_insn.specs.Instructions.{Program, loop_again};
 ghost use Rattle.regress_engine_insn.specs.InsnViews.{fields, instruction};
 ghost use Rattle.regress_engine_runs.specs.Meets.{referred};
 ghost use Rattle.regress_engine_runs.specs.Runs.{fields_of};
-ghost use Rattle.regress_engine_memory.specs.Deciding.{begins_anew, bounds_of, calm_at, ends_iteration, flows, hands, is_flow, is_told_of, live_at, writes};
+ghost use Rattle.regress_engine_memory.specs.Deciding.{begins_anew, bounds_of, calm_at, ends_iteration, flows, hands, is_flow, is_told_of, keeps, keeps_apart, lead_on, leads, live_at, spares, stands_apart, writes};
 ghost use Rattle.regress_engine_memory.specs.Needs.{need};
 ghost use Rattle.regress_engine_memory.specs.TableViews.{bounds_are, needs_of, table_of};
 
 use crate::needs::Needs;
 use regress_engine_insn::{Insn, LoopFields};
+use regress_front_core::LoopID;
 
 /// How many iterations of a loop there are at least and at most.
 #[derive(Debug, Clone, Copy)]
@@ -20,6 +21,14 @@ pub struct Bounds {
     pub least: usize,
     /// At most so many.
     pub most: usize,
+}
+
+/// A loop whose iterations may take nothing: how many have begun need not be told apart up to the least number.
+#[derive(Debug, Clone, Copy)]
+pub struct Padded {
+    pub(crate) loop_id: LoopID,
+    /// The address at which its repetition begins.
+    pub(crate) begin: u32,
 }
 
 /// For each address of a program whether a group may be referred to from there on, which loops' data may still be asked for, and
@@ -34,6 +43,8 @@ pub struct FlowTable {
     pub(crate) loops: Vec<Vec<usize>>,
     /// The bounds of each loop.
     pub(crate) bounds: Vec<Bounds>,
+    /// One loop whose counts need not be told apart, if there is any.
+    pub(crate) padded: Option<Padded>,
     /// How many units a run takes from an address on.
     pub(crate) needs: Needs,
 }
@@ -91,6 +102,13 @@ impl FlowTable {
         } else {
             &[]
         }
+    }
+
+    /// Whether a loop's data may still be asked for from an address on.
+    pub(crate) fn is_live(&self, at: usize, id: usize) -> bool
+        ensures { result ≡ holds (live_at (table_of self.now) at) id }
+    {
+        self.live(at).contains(&id)
     }
 
     /// The bounds of a loop.
@@ -197,15 +215,121 @@ impl FlowTable {
         }
     }
 
-    /// Whether each instruction at a calm address leads on as it is told.
-    pub(crate) fn is_flow(&self, insns: &[Insn]) -> bool
-        ensures { (program : Program) → program.instructions ≡ map instruction insns.now → result ≡ is_flow (table_of self.now) program }
+    /// Whether at an address, where a loop's data may be asked for, others may be written: they are asked for neither where an
+    /// iteration of its repetition begins nor behind it.
+    fn spares(&self, begin: usize, repetition: &LoopFields, at: usize, written: usize) -> bool
+        requires { begin + 1 < 2 ^ 64 }
+        ensures { result ≡ spares (table_of self.now) begin (fields repetition.now) at written }
+    {
+        let id = repetition.loop_id as usize;
+        !self.is_live(at, id)
+            || written == id
+            || (!self.is_live(begin + 1, written)
+                && !self.is_live(repetition.exit as usize, written))
+    }
+
+    /// Whether an iteration that ends at an address leaves a repetition apart, where its own begins at another.
+    fn keeps_turn(
+        &self,
+        insns: &[Insn],
+        begin: usize,
+        repetition: &LoopFields,
+        at: usize,
+        own: usize,
+    ) -> bool
+        requires { begin + 1 < 2 ^ 64 }
+        ensures { (program : Program) → program.instructions ≡ map instruction insns.now
+            → result ≡ keeps_apart (table_of self.now) program begin (fields repetition.now) at (loop_again own) }
+    {
+        match insns.get(own) {
+            Some(Insn::EnterLoop(other)) => {
+                let id = other.loop_id as usize;
+                (id != repetition.loop_id as usize || own == begin)
+                    && self.spares(begin, repetition, at, id)
+            }
+            _ => true,
+        }
+    }
+
+    /// Whether an instruction at an address leaves a repetition apart.
+    fn keeps_apart(
+        &self,
+        insns: &[Insn],
+        begin: usize,
+        repetition: &LoopFields,
+        at: usize,
+        insn: &Insn,
+    ) -> bool
+        requires { begin + 1 < 2 ^ 64 }
+        ensures { (program : Program) → program.instructions ≡ map instruction insns.now
+            → result ≡ keeps_apart (table_of self.now) program begin (fields repetition.now) at (instruction insn.now) }
+    {
+        match insn {
+            Insn::EnterLoop(other) => self.spares(begin, repetition, at, other.loop_id as usize),
+            Insn::LoopAgain { begin: own } => {
+                self.keeps_turn(insns, begin, repetition, at, *own as usize)
+            }
+            _ => true,
+        }
+    }
+
+    /// Whether an instruction at an address leaves the repetition apart whose counts need not be told apart.
+    fn keeps(&self, insns: &[Insn], at: usize, insn: &Insn) -> bool
+        ensures { (program : Program) → program.instructions ≡ map instruction insns.now
+            → result ≡ keeps (table_of self.now) program at (instruction insn.now) }
+    {
+        match self.padded {
+            None => true,
+            Some(padded) => match insns.get(padded.begin as usize) {
+                Some(Insn::EnterLoop(repetition)) => {
+                    self.keeps_apart(insns, padded.begin as usize, repetition, at, insn)
+                }
+                _ => false,
+            },
+        }
+    }
+
+    /// Whether an instruction at an address is as it is told.
+    fn leads(&self, insns: &[Insn], at: usize, insn: &Insn) -> bool
+        requires { at + 2 < 2 ^ 64 }
+        ensures { (program : Program) → program.instructions ≡ map instruction insns.now
+            → result ≡ leads (table_of self.now) program at (instruction insn.now) }
+    {
+        self.flows(insns, at, insn) && self.keeps(insns, at, insn)
+    }
+
+    /// Whether each instruction at a calm address is as it is told.
+    fn lead_on(&self, insns: &[Insn]) -> bool
+        ensures { (program : Program) → program.instructions ≡ map instruction insns.now → result ≡ lead_on (table_of self.now) program }
     {
         for at in 0..insns.len() {
-            if self.is_calm(at) && !self.flows(insns, at, &insns[at]) {
+            if self.is_calm(at) && !self.leads(insns, at, &insns[at]) {
                 return false;
             }
         }
         true
+    }
+
+    /// Whether the repetition whose counts need not be told apart stands where it is told, with nothing asked of its loop behind it.
+    fn stands_apart(&self, insns: &[Insn]) -> bool
+        ensures { (program : Program) → program.instructions ≡ map instruction insns.now → result ≡ stands_apart (table_of self.now) program }
+    {
+        match self.padded {
+            None => true,
+            Some(padded) => match insns.get(padded.begin as usize) {
+                Some(Insn::EnterLoop(repetition)) => {
+                    repetition.loop_id == padded.loop_id
+                        && !self.is_live(repetition.exit as usize, repetition.loop_id as usize)
+                }
+                _ => false,
+            },
+        }
+    }
+
+    /// Whether all is as it is told.
+    pub(crate) fn is_flow(&self, insns: &[Insn]) -> bool
+        ensures { (program : Program) → program.instructions ≡ map instruction insns.now → result ≡ is_flow (table_of self.now) program }
+    {
+        self.stands_apart(insns) && self.lead_on(insns)
     }
 }

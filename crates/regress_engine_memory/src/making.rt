@@ -6,7 +6,7 @@ ghost use Rattle.regress_engine_memory.specs.Deciding.{is_flow};
 ghost use Rattle.regress_engine_memory.specs.Needs.{are_needs};
 ghost use Rattle.regress_engine_memory.specs.TableViews.{needs_of, table_of};
 
-use crate::flow::{Bounds, FlowTable};
+use crate::flow::{Bounds, FlowTable, Padded};
 use crate::needs::Needs;
 use regress_engine_insn::{Insn, LoopFields};
 use std::alloc::{AllocError, Global};
@@ -43,6 +43,80 @@ fn leave_regions(regions: &mut Vec<Region>, at: usize) {
     }
 }
 
+/// Addresses of the body of a repetition to which a run may come without taking anything.
+#[derive(Drop)]
+struct Reached {
+    begin: usize,
+    marked: Vec<bool>,
+}
+
+impl Reached {
+    fn mark(&mut self, at: usize) {
+        if let Some(place) = at.checked_sub(self.begin)
+            && place < self.marked.len()
+        {
+            self.marked[place] = true;
+        }
+    }
+
+    fn has(&self, at: usize) -> bool {
+        match at.checked_sub(self.begin) {
+            Some(place) => place < self.marked.len() && self.marked[place],
+            None => false,
+        }
+    }
+
+    /// Marks where the instruction at an address may lead without taking anything.
+    fn pass(&mut self, insns: &[Insn], at: usize, insn: &Insn) {
+        let next = at.saturating_add(1);
+        match insn {
+            Insn::Jump { target } => self.mark(*target as usize),
+            Insn::Alt { secondary } => {
+                self.mark(next);
+                self.mark(*secondary as usize);
+            }
+            Insn::BeginCaptureGroup(_) | Insn::EndCaptureGroup(_) | Insn::ResetCaptureGroup(_) =>
+                self.mark(next),
+            Insn::EnterLoop(inner) => {
+                self.mark(next);
+                if inner.min_iters == 0 {
+                    self.mark(inner.exit as usize);
+                }
+            }
+            Insn::LoopAgain { begin } => {
+                if let Some(Insn::EnterLoop(inner)) = insns.get(*begin as usize) {
+                    self.mark(inner.exit as usize);
+                }
+            }
+            Insn::Loop1CharBody { min_iters, .. } if *min_iters == 0 => {
+                self.mark(next.saturating_add(1));
+            }
+            _ => {}
+        }
+    }
+}
+
+/// Whether an iteration may take nothing, of the repetition that begins at an address and is left at another. A way through a
+/// lookaround, an atomic group or an assertion is not looked for.
+fn may_take_nothing(
+    alloc: Global,
+    insns: &[Insn],
+    begin: usize,
+    exit: usize,
+) -> Result<bool, AllocError> {
+    let mut marked = Vec::new(alloc);
+    marked.resize(exit.saturating_sub(begin), false)?;
+    let mut reached = Reached { begin, marked };
+    let last = exit.saturating_sub(1);
+    reached.mark(begin.saturating_add(1));
+    for at in begin..last.min(insns.len()) {
+        if reached.has(at) {
+            reached.pass(insns, at, &insns[at]);
+        }
+    }
+    Ok(reached.has(last))
+}
+
 impl FlowTable {
     /// A table with one scope, in which no loop is live, and with so many loops, which tells no more of any address than what a run
     /// takes from there on.
@@ -56,6 +130,7 @@ impl FlowTable {
             scopes: Vec::new(alloc),
             loops: scopes,
             bounds,
+            padded: None,
             needs,
         })
     }
@@ -130,7 +205,29 @@ impl FlowTable {
                 regions.push(region)?;
             }
         }
+        table.tell_padded(alloc, insns)?;
         Ok(table)
+    }
+
+    /// Tells of the loop with the greatest least number, among those whose iterations may take nothing, that its counts need not be told
+    /// apart.
+    fn tell_padded(&mut self, alloc: Global, insns: &[Insn]) -> Result<(), AllocError> {
+        let mut least = 1;
+        for begin in 0..insns.len() {
+            if let Insn::EnterLoop(repetition) = &insns[begin]
+                && repetition.max_iters == usize::MAX
+                && repetition.min_iters > least
+                && may_take_nothing(alloc, insns, begin, repetition.exit as usize)?
+                && let Ok(address) = u32::try_from(begin)
+            {
+                least = repetition.min_iters;
+                self.padded = Some(Padded {
+                    loop_id: repetition.loop_id,
+                    begin: address,
+                });
+            }
+        }
+        Ok(())
     }
 
     /// The table of a program with so many loops, where its instructions lead on and take as much as it tells. It errs only where memory is refused.
