@@ -2,7 +2,7 @@
 use Prim.Native.String.{String}
 use lib.Chars.{codes}
 use Rattle.std.specs.Prelude.{is_some, option_map}
-use Rattle.std.proofs.Common.{◌≡◌, ℕ, Bool, true, false, [], ◌∷◌, Option, Some, refl}
+use Rattle.std.proofs.Common.{◌≡◌, ℕ, Bool, true, false, [], ◌∷◌, Option, Some, None, refl}
 use Rattle.regress_meaning.specs.TableParts.{table_of, small_parts}
 use Rattle.regress_meaning.specs.Meaning.{Forward}
 use Rattle.regress_meaning.specs.Inputs.{Input, ascii_input}
