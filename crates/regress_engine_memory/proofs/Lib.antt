@@ -1,13 +1,9 @@
 pub mod Deciding
 pub mod TableLemmas
-pub mod LoopData
-pub mod Unreferring
-pub mod SameRuns
-pub mod EachState
-pub mod Onward
-pub mod LessRuns
-mod PaddedRuns
-pub mod Forgetting
+pub use Rattle.regress_engine_failing.proofs.Unreferring
+pub use Rattle.regress_engine_failing.proofs.EachState
+pub use Rattle.regress_engine_failing.proofs.Onward
+pub use Rattle.regress_engine_failing.proofs.Forgetting
 pub mod Exits
 pub mod Taking
 pub mod Steady

@@ -1,9 +1,9 @@
-pub mod Flow
+pub use Rattle.regress_engine_failing.specs.Flow
 pub mod Passing
 pub mod Deciding
-pub mod Agreeing
-pub mod Under
-pub mod Keys
+pub use Rattle.regress_engine_failing.specs.Agreeing
+pub use Rattle.regress_engine_failing.specs.Under
+pub use Rattle.regress_engine_failing.specs.Keys
 pub mod Held
 pub mod TableViews
 pub mod BitViews

@@ -1,50 +1,27 @@
 //! Laws of failures, each the contract of a function with an empty body.
 ghost use Rattle.std.specs.Prelude.{◌≡◌, ◌<◌, ℕ, true, false, [], ◌∷◌, List, None, Some, Option, All, length};
-ghost use Rattle.regress_meaning.specs.Meaning.{Direction};
 ghost use Rattle.regress_meaning.specs.Inputs.{Input};
 ghost use Rattle.regress_engine_input.specs.Views.{AreOfKind, View, direction_of, input_of};
 ghost use Rattle.regress_engine_insn.specs.Instructions.{Instruction, Program};
 ghost use Rattle.regress_engine_runs.specs.Meets.{referred};
-ghost use Rattle.regress_engine_runs.specs.Runs.{Run, advance};
+ghost use Rattle.regress_engine_runs.specs.Runs.{advance};
 ghost use Rattle.regress_engine_runs.specs.States.{Marks, Whole};
-ghost use Rattle.regress_engine_runs.specs.UndoStack.{Fails, Work, at_each, tried, whole};
+ghost use Rattle.regress_engine_runs.specs.UndoStack.{Work, at_each, tried};
 ghost use Rattle.regress_engine_search.specs.Search.{Suits};
 ghost use Rattle.regress_engine_search.specs.Tasks.{IsTried, Leads};
 ghost use Rattle.regress_engine_undo.specs.Held.{Held, pushed};
 ghost use Rattle.regress_engine_undo.specs.Tasks.{task};
 ghost use Rattle.regress_engine_undo.specs.declared.undo.Spot.{Spot};
-ghost use Rattle.regress_engine_memory.specs.Agreeing.{AgreeAll, EndAlike};
 ghost use Rattle.regress_engine_memory.specs.Deciding.{Table, flow_of, is_flow};
-ghost use Rattle.regress_engine_memory.specs.Flow.{Flow, IsFlow};
+ghost use Rattle.regress_engine_memory.specs.Flow.{IsFlow};
 ghost use Rattle.regress_engine_memory.specs.Held.{FailsIfFree, FailsWith};
-ghost use Rattle.regress_engine_memory.specs.Keys.{AllFail, AreFree, ExitsFail, FailsAt, HaveKey, IsSteady, Key, Keyed};
+ghost use Rattle.regress_engine_memory.specs.Keys.{AllFail, ExitsFail, FailsAt, HaveKey, Key, Keyed};
 ghost use Rattle.regress_engine_memory.specs.Needs.{are_needs, need};
-ghost use Rattle.regress_engine_memory.specs.Under.{AreUnder, room};
+ghost use Rattle.regress_engine_memory.specs.Under.{room};
 
 /// A table that passes its test tells what is so of the program.
 pub fn tables_are_tested()
     ensures { (t : Table) → (program : Program) → is_flow t program ≡ true → IsFlow (flow_of t) program }
-{}
-
-/// States that agree run alike: in as many steps, and to answers at one offset, or both to none.
-pub fn agreeing_states_run_alike()
-    ensures { (flow : Flow) → (program : Program) → (input : Input) → IsFlow flow program → (dir : Direction) → (ss ts : List Whole) → AgreeAll flow ss ts
-        → (n : ℕ) → (r : Option Whole) → Run program input dir ts n r → (q : Option Whole) × Run program input dir ss n q × EndAlike q r }
-{}
-
-/// States that are under some that have no answer have none, where each state that is met leads only onward.
-pub fn states_under_failures_fail()
-    ensures { (flow : Flow) → (last : ℕ) → (program : Program) → (input : Input) → IsFlow flow program → (dir : Direction) → (ts : List Whole)
-        → Fails program input dir ts → IsSteady program input last dir ts → (ss : List Whole) → AreUnder flow last dir ss ts → Fails program input dir ss }
-{}
-
-/// A state has no answer, and its loops show that none with its key may do more: then none with its key has an answer, whatever
-/// groups and loops it holds.
-pub fn failures_forget()
-    ensures { (keyed : Keyed) → (program : Program) → (input : Input) → IsFlow keyed.flow program → (k : Key) → keyed.flow.calm k.at ≡ true
-        → (last : ℕ) → (loops : List (ℕ × ℕ)) → (groups : List Marks) → length loops ≡ program.loops → AreFree keyed last k loops
-        → IsSteady program input last k.dir (whole k.at k.offset loops groups ∷ []) → Fails program input k.dir (whole k.at k.offset loops groups ∷ [])
-        → FailsAt program input keyed k }
 {}
 
 /// The record of what is tried may be pushed beneath the ways of a state.

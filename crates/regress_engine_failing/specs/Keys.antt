@@ -7,8 +7,8 @@ use Rattle.regress_engine_runs.specs.States.{Marks, Whole}
 use Rattle.regress_engine_runs.specs.Runs.{is_plain, successors, one_by_one}
 use Rattle.regress_engine_runs.specs.Meets.{Meets, referred}
 use Rattle.regress_engine_runs.specs.UndoStack.{Fails, whole}
-use Rattle.regress_engine_memory.specs.Flow.{Flow}
-use Rattle.regress_engine_memory.specs.Under.{room, AreOnward, HasMoved}
+use Rattle.regress_engine_failing.specs.Flow.{Flow}
+use Rattle.regress_engine_failing.specs.Under.{room, AreOnward, HasMoved}
 
 -- What is told of a program, and which of its loops are counted: of these a key has the exact count.
 pub record Keyed : Type 0 where

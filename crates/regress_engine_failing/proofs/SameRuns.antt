@@ -11,10 +11,10 @@ use Rattle.regress_engine_runs.specs.Runs.{Run, ends, finds, goes, looks, succes
 use Rattle.regress_engine_runs.specs.Meets.{referred}
 use Rattle.regress_engine_runs.specs.UndoStack.{whole, at_each}
 use Rattle.regress_engine_search.proofs.InsnLemmas.{again-successors}
-use Rattle.regress_engine_memory.specs.Flow.{Flow, Hands, Flows, IsFlow}
-use Rattle.regress_engine_memory.specs.Agreeing.{Agrees, AgreeAll, EndAlike}
-use Rattle.regress_engine_memory.proofs.LoopData.{set-both}
-use Rattle.regress_engine_memory.proofs.Unreferring.{advance-any, counted-any}
+use Rattle.regress_engine_failing.specs.Flow.{Flow, Hands, Flows, IsFlow}
+use Rattle.regress_engine_failing.specs.Agreeing.{Agrees, AgreeAll, EndAlike}
+use Rattle.regress_engine_failing.proofs.LoopData.{set-both}
+use Rattle.regress_engine_failing.proofs.Unreferring.{advance-any, counted-any}
 
 module _ (flow : Flow) where
   pub agree-append : (xs ys ss ts : List Whole) → AgreeAll flow xs ys → AgreeAll flow ss ts → AgreeAll flow (xs ++ ss) (ys ++ ts)

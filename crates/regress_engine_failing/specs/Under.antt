@@ -4,7 +4,7 @@ use Rattle.std.specs.List.{AllByRecursion}
 use Rattle.regress_meaning.specs.Meaning.{Direction, Forward, Backward}
 use Rattle.regress_engine_runs.specs.States.{Whole}
 use Rattle.regress_engine_runs.specs.UndoStack.{IsPast}
-use Rattle.regress_engine_memory.specs.Flow.{Flow}
+use Rattle.regress_engine_failing.specs.Flow.{Flow}
 
 -- how many units lie between an offset and the end of a text that is read in a direction; the first number is the last offset
 abbrev pub room : (last : ℕ) → Direction → ℕ → ℕ

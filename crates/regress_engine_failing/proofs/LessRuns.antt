@@ -14,14 +14,14 @@ use Rattle.regress_engine_runs.specs.Runs.{Run, ends, finds, goes, looks, succes
 use Rattle.regress_engine_runs.specs.Meets.{now, later, inside, behind, referred}
 use Rattle.regress_engine_runs.specs.UndoStack.{Fails, IsPast, whole, at_each}
 use Rattle.regress_engine_search.proofs.InsnLemmas.{again-successors}
-use Rattle.regress_engine_memory.specs.Flow.{Flow, Hands, IsToldOf, Flows, IsFlow}
-use Rattle.regress_engine_memory.specs.Agreeing.{Agrees, EndAlike}
-use Rattle.regress_engine_memory.specs.Under.{IsFurther, IsOnward, AreOnward, HasMoved, IsLoose, Covers, IsUnder, AreUnder}
-use Rattle.regress_engine_memory.specs.Keys.{IsSteady}
-use Rattle.regress_engine_memory.proofs.LoopData.{set-both}
-use Rattle.regress_engine_memory.proofs.Unreferring.{advance-any, counted-any}
-use Rattle.regress_engine_memory.proofs.SameRuns.{same-run}
-use Rattle.regress_engine_memory.proofs.Onward.{room-less, past-on, further-past, past-differs, flows-unreferring, ends-onward}
+use Rattle.regress_engine_failing.specs.Flow.{Flow, Hands, IsToldOf, Flows, IsFlow}
+use Rattle.regress_engine_failing.specs.Agreeing.{Agrees, EndAlike}
+use Rattle.regress_engine_failing.specs.Under.{IsFurther, IsOnward, AreOnward, HasMoved, IsLoose, Covers, IsUnder, AreUnder}
+use Rattle.regress_engine_failing.specs.Keys.{IsSteady}
+use Rattle.regress_engine_failing.proofs.LoopData.{set-both}
+use Rattle.regress_engine_failing.proofs.Unreferring.{advance-any, counted-any}
+use Rattle.regress_engine_failing.proofs.SameRuns.{same-run}
+use Rattle.regress_engine_failing.proofs.Onward.{room-less, past-on, further-past, past-differs, flows-unreferring, ends-onward}
 
 -- an iteration that has begun here past the least number is idle
 pub idle-here : (least o : ℕ) (x : ℕ × ℕ) → least < x.0 → x.1 ≡ o → (nat_lt least x.0 && (x.1 == o)) ≡ true

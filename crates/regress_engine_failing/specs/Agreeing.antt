@@ -1,7 +1,7 @@
 -- States that agree in what may still be asked of them.
 use Rattle.std.specs.Prelude.{◌≡◌, ℕ, true, List, [], ◌∷◌, length, get_or, Option, Some, None}
 use Rattle.regress_engine_runs.specs.States.{Whole}
-use Rattle.regress_engine_memory.specs.Flow.{Flow}
+use Rattle.regress_engine_failing.specs.Flow.{Flow}
 
 -- Two states agree: they are at one address and one offset, and have the same data of each loop that is live there.
 pub record Agrees (flow : Flow) (s t : Whole) : Type 0 where

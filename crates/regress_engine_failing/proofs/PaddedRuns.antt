@@ -14,16 +14,16 @@ use Rattle.regress_engine_runs.specs.Runs.{Run, ends, finds, goes, looks, succes
 use Rattle.regress_engine_runs.specs.Meets.{now, later, inside, behind, referred}
 use Rattle.regress_engine_runs.specs.UndoStack.{Fails, IsPast, whole, at_each}
 use Rattle.regress_engine_search.proofs.InsnLemmas.{again-successors}
-use Rattle.regress_engine_memory.specs.Flow.{Flow, Hands, Writes, IsToldOf, Flows, Asked, IsApart, IsFlow}
-use Rattle.regress_engine_memory.specs.Agreeing.{Agrees, EndAlike}
-use Rattle.regress_engine_memory.specs.Under.{room, IsFurther, IsOnward, AreOnward, HasMoved, IsLoose, Covers, IsFresh}
-use Rattle.regress_engine_memory.specs.Keys.{IsSteady}
+use Rattle.regress_engine_failing.specs.Flow.{Flow, Hands, Writes, IsToldOf, Flows, Asked, IsApart, IsFlow}
+use Rattle.regress_engine_failing.specs.Agreeing.{Agrees, EndAlike}
+use Rattle.regress_engine_failing.specs.Under.{room, IsFurther, IsOnward, AreOnward, HasMoved, IsLoose, Covers, IsFresh}
+use Rattle.regress_engine_failing.specs.Keys.{IsSteady}
 use Rattle.std.proofs.lemmas.Bool.{cases_eq, cases_lt}
-use Rattle.regress_engine_memory.proofs.LoopData.{set-both}
-use Rattle.regress_engine_memory.proofs.LessRuns.{idle-here, busy, moved-on, covers-on, covers-begun}
-use Rattle.regress_engine_memory.proofs.Unreferring.{advance-any, counted-any}
-use Rattle.regress_engine_memory.proofs.SameRuns.{same-run}
-use Rattle.regress_engine_memory.proofs.Onward.{room-less, past-on, further-past, past-differs, flows-unreferring, ends-onward}
+use Rattle.regress_engine_failing.proofs.LoopData.{set-both}
+use Rattle.regress_engine_failing.proofs.LessRuns.{idle-here, busy, moved-on, covers-on, covers-begun}
+use Rattle.regress_engine_failing.proofs.Unreferring.{advance-any, counted-any}
+use Rattle.regress_engine_failing.proofs.SameRuns.{same-run}
+use Rattle.regress_engine_failing.proofs.Onward.{room-less, past-on, further-past, past-differs, flows-unreferring, ends-onward}
 
 module _ (flow : Flow) (last : ℕ) (dir : Direction) (program : Program) (input : Input) (begin : ℕ) (f : LoopFields) where
   abbrev pub id : ℕ

@@ -7,11 +7,11 @@ use Rattle.regress_meaning.specs.Inputs.{Input}
 use Rattle.regress_engine_insn.specs.Instructions.{LoopFields, Program}
 use Rattle.regress_engine_runs.specs.States.{Marks}
 use Rattle.regress_engine_runs.specs.UndoStack.{Fails, whole}
-use Rattle.regress_engine_memory.specs.Flow.{Flow, IsApart, IsFlow}
-use Rattle.regress_engine_memory.specs.Under.{room, HasMoved, Covers}
-use Rattle.regress_engine_memory.specs.Keys.{Keyed, Key, AreFree, HaveKey, IsSteady, FailsAt, class_of, is_padded}
-use Rattle.regress_engine_memory.proofs.LessRuns.{less-fails}
-use Rattle.regress_engine_memory.proofs.PaddedRuns.{Covered, padded-fails}
+use Rattle.regress_engine_failing.specs.Flow.{Flow, IsApart, IsFlow}
+use Rattle.regress_engine_failing.specs.Under.{room, HasMoved, Covers}
+use Rattle.regress_engine_failing.specs.Keys.{Keyed, Key, AreFree, HaveKey, IsSteady, FailsAt, class_of, is_padded}
+use Rattle.regress_engine_failing.proofs.LessRuns.{less-fails}
+use Rattle.regress_engine_failing.proofs.PaddedRuns.{Covered, padded-fails}
 
 -- data of one class are covered by those of which the iteration may end
 alike-covers : (flow : Flow) (last id : ℕ) (dir : Direction) (o : ℕ) (b : Bool) (x y : ℕ × ℕ) → (if b then x.0 else min x.0 (flow.least id)) ≡ (if b then y.0 else min y.0 (flow.least id))

@@ -11,12 +11,12 @@ use Rattle.regress_engine_runs.specs.States.{Whole}
 use Rattle.regress_engine_runs.specs.Runs.{Run, ends, finds, goes, looks, successors, after_submatch}
 use Rattle.regress_engine_runs.specs.Meets.{now, later, inside, behind, referred}
 use Rattle.regress_engine_runs.specs.UndoStack.{IsPast}
-use Rattle.regress_engine_memory.specs.Flow.{Flow, Flows, IsFlow}
-use Rattle.regress_engine_memory.specs.Agreeing.{AgreeAll, EndAlike}
-use Rattle.regress_engine_memory.specs.Under.{room, IsFurther, IsOnward, AreOnward}
-use Rattle.regress_engine_memory.specs.Keys.{IsSteady}
-use Rattle.regress_engine_memory.proofs.EachState.{each-append}
-use Rattle.regress_engine_memory.proofs.SameRuns.{agree-append, agree-behind, agree-step, agree-inside, agree-outside}
+use Rattle.regress_engine_failing.specs.Flow.{Flow, Flows, IsFlow}
+use Rattle.regress_engine_failing.specs.Agreeing.{AgreeAll, EndAlike}
+use Rattle.regress_engine_failing.specs.Under.{room, IsFurther, IsOnward, AreOnward}
+use Rattle.regress_engine_failing.specs.Keys.{IsSteady}
+use Rattle.regress_engine_failing.proofs.EachState.{each-append}
+use Rattle.regress_engine_failing.proofs.SameRuns.{agree-append, agree-behind, agree-step, agree-inside, agree-outside}
 
 pub room-less : (last : ℕ) (dir : Direction) (o q : ℕ) → IsFurther last dir o q → room last dir q < room last dir o
 room-less last Forward o q (past, low) = omega arith

@@ -1,0 +1,4 @@
+pub mod Flow
+pub mod Agreeing
+pub mod Under
+pub mod Keys
