@@ -153,11 +153,14 @@ const HOSTILE: &[HostileRow] = &[
     ("(?<=b(?:a|a)*)c", "a", 1000, "c", None),
     ("(?:(a|a){127}!)+?", "a", 200, "", None),
     ("(?:a|aa){200}b", "a", 300, "", None),
+    // Of a least number no more iterations are done than the text has room for.
+    (r"(x|){65536,}?\n", "x", 60, "", None),
+    (r"(x|){65536,}?\n", "x", 60, "\n", Some((0, 61))),
+    ("(?:(?:yy)?|x){65536,}z", "x", 60, "", None),
+    ("(?:x{0,40}|y){65536,}z", "x", 60, "", None),
     // A loop of many iterations has a plane for each.
     ("(a|a){0,1000}b", "a", 1_500, "", None),
     ("(?:a|aa){500}b", "a", 900, "", None),
-    (r"(x|){20000,}?\n", "x", 60, "", None),
-    ("(?:(?:yy)?|x){20000,}z", "x", 60, "", None),
     // Fewer characters are left than a match needs.
     ("(?:a?){300}a{300}", "a", 299, "", None),
     (r"^(x|){65536,}?\n", "x", 1, "", None),

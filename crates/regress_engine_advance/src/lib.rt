@@ -10,6 +10,7 @@ mod leads;
 mod literals;
 mod reading;
 mod references;
+mod room;
 mod times;
 
 pub use advancing::advance;
@@ -20,4 +21,5 @@ pub use first::taken_first;
 pub use leads::lead_ahead;
 pub use literals::{bytes_beside, other_ahead};
 pub use reading::beside;
+pub use room::units_ahead;
 pub use times::{after_times, as_far};

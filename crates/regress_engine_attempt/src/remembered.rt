@@ -4,7 +4,7 @@ ghost use Rattle.regress_engine_code.specs.Standing.{program_of};
 ghost use Rattle.regress_engine_input.specs.Views.{direction_of};
 ghost use Rattle.regress_engine_memory.specs.Needs.{need};
 ghost use Rattle.regress_engine_memory.specs.TableViews.{needs_of};
-ghost use Rattle.regress_engine_memory.specs.Under.{room};
+ghost use Rattle.regress_engine_runs.specs.Runs.{room};
 ghost use Rattle.regress_engine_search.specs.Search.{Suits};
 ghost use Rattle.regress_engine_undo.specs.Held.{held, undo_of, pushed};
 ghost use Rattle.regress_engine_attempt.specs.Attempts.{Remembers, world};
@@ -14,6 +14,7 @@ ghost use Rattle.regress_engine_trying.specs.Trying.{IsHeldIn, Steps, World};
 
 use crate::attempt::Attempt;
 use crate::counts::Counts;
+use regress_engine_advance::units_ahead;
 use regress_engine_insn::Insn;
 use regress_engine_memory::{Failures, FlowTable};
 use regress_engine_search::ExecutorInput;
@@ -107,13 +108,7 @@ impl<'a, Input: ExecutorInput> Attempt<'a, Input> {
         ensures { result ≡ nat_lt (room (length (Input.view self.now.input).units) (direction_of spot.now.forward) spot.now.offset)
             (need (needs_of failures.now.table) spot.now.at) }
     {
-        let last = self.text_len();
-        let left = if spot.forward {
-            last.saturating_sub(spot.offset)
-        } else {
-            spot.offset
-        };
-        left < failures.need(spot.at)
+        units_ahead(&self.input, spot.forward, spot.offset) < failures.need(spot.at)
     }
 
     /// Whether the state at a spot surely fails: it needs more text than there is, or is known to fail. If not, it may be recorded that

@@ -16,7 +16,7 @@ ghost use Rattle.regress_engine_trying.specs.Trying.{IsHeldIn, ReadsAt, ReadsHer
 
 use crate::attempt::Attempt;
 use crate::counts::Counts;
-use regress_engine_advance::{advance, is_dead};
+use regress_engine_advance::{advance, is_dead, units_ahead};
 use regress_engine_insn::Insn;
 use regress_engine_search::{ExecutorInput, Submatch};
 use regress_engine_undo::{Memory, Spot, begun, ended};
@@ -188,7 +188,8 @@ impl<'a, Input: ExecutorInput> Attempt<'a, Input> {
             Insn::EnterLoop(repetition) => {
                 let exit = repetition.exit as usize;
                 let dead = is_dead(self.program, &self.input, exit, spot.forward, spot.offset);
-                let going = memory.enter(repetition, dead, spot)?;
+                let ahead = units_ahead(&self.input, spot.forward, spot.offset);
+                let going = memory.enter(repetition, repetition.surplus(ahead), dead, spot)?;
                 Ok(Some(going))
             }
             Insn::LoopAgain { begin } => {

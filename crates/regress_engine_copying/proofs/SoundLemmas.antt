@@ -7,7 +7,7 @@ use Rattle.regress_meaning.specs.Inputs.{Input}
 use Rattle.regress_engine_insn.specs.Instructions.{Instruction, LoopFields, Program, Stands}
 use Rattle.regress_engine_insn.specs.Instructions as code
 use Rattle.regress_engine_runs.specs.States.{Whole, onward, first_state, unset}
-use Rattle.regress_engine_runs.specs.Runs.{advance, successors, choices, ordered, counted, is_idle, moved_to, fields_of, one_more}
+use Rattle.regress_engine_runs.specs.Runs.{advance, entered, successors, choices, ordered, counted, is_idle, moved_to, fields_of, one_more}
 use Rattle.regress_engine_runs.specs.UndoStack.{Frame}
 use Rattle.regress_engine_search.specs.Tasks.{HasGroups}
 use Rattle.regress_engine_copying.specs.Held.{Entry, tried, submatched, Held, pushed, put}
@@ -72,8 +72,7 @@ module _ (program : Program) where
     successors-whole (code.end_group k) dir s w = (record { loops = w.loops; groups = length-set s.groups k _ ∙ w.groups }, tt)
     successors-whole (code.reset_group k) dir s w = (record { loops = w.loops; groups = length-set s.groups k unset ∙ w.groups }, tt)
     successors-whole (code.enter_loop f) dir s w =
-        choices-whole f s.at (record s { loops = slice_set s.loops f.loop_id (0, s.offset) })
-        (record { loops = length-set s.loops f.loop_id (0, s.offset) ∙ w.loops; groups = w.groups })
+        choices-whole f s.at (entered input dir f s) (record { loops = length-set s.loops f.loop_id _ ∙ w.loops; groups = w.groups })
     successors-whole (code.loop_again begin) dir s w = again-whole begin s (fields_of (slice_get program.instructions begin)) w
     successors-whole (code.single_loop least most greedy) dir s w = single-whole least most greedy dir s (slice_get program.instructions (suc s.at)) w
     successors-whole i dir s w = moved-whole s (advance program input i dir s.groups s.offset) w

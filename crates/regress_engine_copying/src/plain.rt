@@ -16,7 +16,7 @@ ghost use Rattle.regress_engine_copying.specs.Sound.{IsWhole};
 use crate::attempt::Attempt;
 use crate::stack::Stack;
 use crate::state::State;
-use regress_engine_advance::advance;
+use regress_engine_advance::{advance, units_ahead};
 use regress_engine_insn::{Insn, LoopFields};
 use regress_engine_matchers::CharInput;
 use std::alloc::AllocError;
@@ -67,13 +67,18 @@ impl Stack {
         self.push(out)
     }
 
-    /// Enters a repetition.
-    fn enter(&mut self, repetition: &LoopFields, mut state: State) -> Result<(), AllocError>
+    /// Enters a repetition, of which so many iterations are taken as done.
+    fn enter(
+        &mut self,
+        repetition: &LoopFields,
+        done: usize,
+        mut state: State,
+    ) -> Result<(), AllocError>
         requires there { repetition.now.loop_id < length (state_of state).loops }
         requires room { state.at + 1 < 2 ^ 64 }
-        ensures { OnOk result (held self.new ≡ put (choices (fields repetition.now) state.at (record (state_of state) { loops = slice_set (state_of state).loops repetition.now.loop_id (0, state.offset) })) (held self.old)) }
+        ensures { OnOk result (held self.new ≡ put (choices (fields repetition.now) state.at (record (state_of state) { loops = slice_set (state_of state).loops repetition.now.loop_id (done, state.offset) })) (held self.old)) }
     {
-        state.enter(repetition.loop_id as usize);
+        state.enter(repetition.loop_id as usize, done);
         let begin = state.at;
         self.choose(repetition, begin, state)
     }
@@ -169,7 +174,10 @@ impl<'a, Input: CharInput> Attempt<'a, Input> {
                 state.reset(*group as usize);
                 stack.push(state)
             }
-            Insn::EnterLoop(repetition) => stack.enter(repetition, state),
+            Insn::EnterLoop(repetition) => {
+                let ahead = units_ahead(&self.input, stack.forward, state.offset);
+                stack.enter(repetition, repetition.surplus(ahead), state)
+            }
             Insn::LoopAgain { begin } => self.end_iteration(*begin as usize, state, stack),
             Insn::Loop1CharBody {
                 min_iters,

@@ -128,12 +128,18 @@ impl State {
         self.set_group(group, GroupData::new());
     }
 
-    /// Enters a loop, of which no iteration has begun.
-    pub(crate) fn enter(&mut self, id: usize)
+    /// Enters a loop, of which so many iterations are taken as done.
+    pub(crate) fn enter(&mut self, id: usize, done: usize)
         requires { id < length (state_of self.old).loops }
-        ensures { state_of self.new ≡ record (state_of self.old) { loops = slice_set (state_of self.old).loops id (0, self.old.offset) } }
+        ensures { state_of self.new ≡ record (state_of self.old) { loops = slice_set (state_of self.old).loops id (done, self.old.offset) } }
     {
-        self.set_loop(id, LoopData::new(self.offset));
+        self.set_loop(
+            id,
+            LoopData {
+                iters: done,
+                entry: self.offset,
+            },
+        );
     }
 
     /// Begins one more iteration of a loop, of which so many have begun, and whose repetition begins at an address.

@@ -1,5 +1,5 @@
 -- The instructions of a program, as definitions see them.
-use Rattle.std.specs.Prelude.{◌≡◌, ℕ, suc, Bool, true, false, List, [], ◌∷◌, Some, slice_get}
+use Rattle.std.specs.Prelude.{◌≡◌, ℕ, suc, ◌-◌, Bool, true, false, List, [], ◌∷◌, Some, slice_get}
 use Rattle.regress_front_nodes.specs.Trees.{Submatch}
 
 -- A repetition: its number among the program's loops, how often at least and at most, whether more is preferred, and the
@@ -10,6 +10,11 @@ pub record LoopFields : Type 0 where
   pub most : ℕ
   pub greedy : Bool
   pub exit : ℕ
+
+-- How many iterations are taken as done where a repetition begins and so many units lie ahead: of the least number those beyond the units
+-- and one. One of those that are left takes nothing, and could be done as often.
+abbrev pub surplus : (least ahead : ℕ) → ℕ
+surplus least ahead = least - suc ahead
 
 -- An instruction.
 pub data Instruction : Type 0 where

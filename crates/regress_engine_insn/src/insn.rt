@@ -1,6 +1,6 @@
 //! The instructions of a program.
 ghost use Rattle.std.specs.Prelude.{◌≡◌, nat_lt, length};
-ghost use Rattle.regress_engine_insn.specs.Instructions.{bytes_in, is_byte_seq};
+ghost use Rattle.regress_engine_insn.specs.Instructions.{bytes_in, is_byte_seq, surplus};
 ghost use Rattle.regress_engine_insn.specs.InsnViews.{instruction};
 
 use regress_front_bytes::{AsciiBitmap, ByteArraySet};
@@ -23,6 +23,21 @@ pub struct LoopFields {
     pub greedy: bool,
     /// The address behind it.
     pub exit: u32,
+}
+
+impl LoopFields {
+    /// How many iterations are taken as done where the repetition begins and so many units lie ahead: of the least number those
+    /// beyond the units and one. One of those that are left takes nothing, and could be done as often.
+    ///
+    /// ```rust
+    /// let count = repetition.surplus(text_len - offset);
+    /// ```
+    #[inline]
+    pub fn surplus(&self, ahead: usize) -> usize
+        ensures { result ≡ surplus self.now.min_iters ahead }
+    {
+        self.min_iters.saturating_sub(ahead).saturating_sub(1)
+    }
 }
 
 /// An instruction. Addresses are indices of instructions, and capture groups are counted from 0.

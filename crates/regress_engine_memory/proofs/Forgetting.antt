@@ -8,7 +8,8 @@ use Rattle.regress_engine_insn.specs.Instructions.{Program}
 use Rattle.regress_engine_runs.specs.States.{Marks}
 use Rattle.regress_engine_runs.specs.UndoStack.{Fails, whole}
 use Rattle.regress_engine_memory.specs.Flow.{Flow, IsFlow}
-use Rattle.regress_engine_memory.specs.Under.{room, HasMoved, Covers}
+use Rattle.regress_engine_runs.specs.Runs.{room}
+use Rattle.regress_engine_memory.specs.Under.{HasMoved, Covers}
 use Rattle.regress_engine_memory.specs.Keys.{Keyed, Key, AreFree, IsSteady, FailsAt}
 use Rattle.regress_engine_memory.proofs.LessRuns.{less-fails}
 

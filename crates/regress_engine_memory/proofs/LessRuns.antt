@@ -7,10 +7,10 @@ use Rattle.regress_meaning.specs.Meaning.{Direction}
 use Rattle.regress_meaning.specs.Inputs.{Input}
 use Rattle.regress_front_nodes.specs.Trees.{Submatch, lookaround, atomic}
 use Rattle.regress_front_nodes.specs.TreeMeaning.{submatch_direction}
-use Rattle.regress_engine_insn.specs.Instructions.{LoopFields, Instruction, Program, Stands}
+use Rattle.regress_engine_insn.specs.Instructions.{LoopFields, Instruction, Program, Stands, surplus}
 use Rattle.regress_engine_insn.specs.Instructions as code
 use Rattle.regress_engine_runs.specs.States.{Marks, Whole, onward, mixed}
-use Rattle.regress_engine_runs.specs.Runs.{Run, ends, finds, goes, looks, successors, after_submatch, moved_to, ordered, choices, one_more, count_of, is_idle, advance, counted}
+use Rattle.regress_engine_runs.specs.Runs.{room, Run, ends, finds, goes, looks, successors, after_submatch, moved_to, ordered, choices, one_more, count_of, is_idle, advance, counted}
 use Rattle.regress_engine_runs.specs.Meets.{now, later, inside, behind, referred}
 use Rattle.regress_engine_runs.specs.UndoStack.{Fails, IsPast, whole, at_each}
 use Rattle.regress_engine_search.proofs.InsnLemmas.{again-successors}
@@ -282,7 +282,7 @@ module _ (flow : Flow) (last : ℕ) (dir : Direction) where
   under-on program input o ls ms gs hs size at entries (code.end_group k) flows on = inl (handed program input o ls ms gs hs size at entries (suc at) flows _ _, tt)
   under-on program input o ls ms gs hs size at entries (code.reset_group k) flows on = inl (handed program input o ls ms gs hs size at entries (suc at) flows _ _, tt)
   under-on program input o ls ms gs hs size at entries (code.enter_loop f) (told, writes, leaves) on =
-      let begun : ℕ × ℕ = (0, o) in
+      let begun : ℕ × ℕ = (surplus f.least (room (length input.units) dir o), o) in
       let id : ℕ = f.loop_id in
       let other : (k : ℕ) → ((k ≡ id → ⊥) → Covers flow last k dir o (get_or ls k (0, 0)) (get_or ms k (0, 0)))
       → Covers flow last k dir o (get_or (slice_set ls id begun) k (0, 0)) (get_or (slice_set ms id begun) k (0, 0)) =

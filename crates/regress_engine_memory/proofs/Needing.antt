@@ -8,7 +8,7 @@ use Rattle.regress_engine_input.specs.Views.{View, AreOfKind, direction_of, inpu
 use Rattle.regress_engine_insn.specs.Instructions.{LoopFields, Instruction, Program, Stands}
 use Rattle.regress_engine_insn.specs.Instructions as code
 use Rattle.regress_engine_runs.specs.States.{Whole}
-use Rattle.regress_engine_runs.specs.Runs.{Run, ends, finds, goes, looks, successors, after_submatch, is_plain, fields_of}
+use Rattle.regress_engine_runs.specs.Runs.{Run, ends, finds, goes, looks, successors, after_submatch, is_plain, entered, fields_of, room}
 use Rattle.regress_engine_runs.specs.Meets.{Meets, now, later, behind, reads_character, ReadsPlaces}
 use Rattle.regress_engine_runs.specs.UndoStack.{Work, Fails, Comes, trying, failed, succeeded, meets_tried, stands_for}
 use Rattle.regress_engine_runs.proofs.TriedLemmas.{tried_pushed}
@@ -19,7 +19,6 @@ use Rattle.regress_engine_undo.specs.declared.undo.Spot.{Spot}
 use Rattle.regress_engine_undo.specs.Held.{Held}
 use Rattle.regress_engine_undo.specs.Tasks.{task, state_at}
 use Rattle.regress_engine_memory.specs.Needs.{taken_by, need, covers, covers_iteration, needs_at, are_needs, IsShort, AreShort}
-use Rattle.regress_engine_memory.specs.Under.{room}
 use Rattle.regress_engine_memory.proofs.Onward.{Takes}
 use Rattle.regress_engine_memory.proofs.EachState.{each-append, each-choices, each-again}
 use Rattle.regress_engine_memory.proofs.TableLemmas.{each-passes}
@@ -62,7 +61,7 @@ module _ (needs : List ℕ) (v : View) (all : AreOfKind v.kind v.units) (program
   short-step d (code.reset_group k) s here plain reads less e = (short-on d s.offset s.at (suc s.at) less e, tt)
   short-step d (code.enter_loop f) s here plain reads less e =
       let both = short-choices d f s.at s less e in
-      each-choices (IsShort needs last d) f s.at (record s { loops = slice_set s.loops f.loop_id (0, s.offset) }) both.0 both.1
+      each-choices (IsShort needs last d) f s.at (entered (input_of v) d f s) both.0 both.1
   short-step d (code.loop_again begin) s here plain reads less e =
       each-again (IsShort needs last d) (fields_of (slice_get program.instructions begin)) begin s
       (λ f is. short-choices d f begin s less (subst (λ x. covers_iteration needs s.at begin x ≡ true) is e))

@@ -8,12 +8,12 @@ use Rattle.regress_front_nodes.specs.TreeMeaning.{submatch_direction}
 use Rattle.regress_engine_insn.specs.Instructions.{Instruction, Program}
 use Rattle.regress_engine_insn.specs.Instructions as code
 use Rattle.regress_engine_runs.specs.States.{Whole}
-use Rattle.regress_engine_runs.specs.Runs.{Run, ends, finds, goes, looks, successors, after_submatch}
+use Rattle.regress_engine_runs.specs.Runs.{Run, ends, finds, goes, looks, successors, after_submatch, room}
 use Rattle.regress_engine_runs.specs.Meets.{now, later, inside, behind, referred}
 use Rattle.regress_engine_runs.specs.UndoStack.{IsPast}
 use Rattle.regress_engine_memory.specs.Flow.{Flow, Flows, IsFlow}
 use Rattle.regress_engine_memory.specs.Agreeing.{AgreeAll, EndAlike}
-use Rattle.regress_engine_memory.specs.Under.{room, IsFurther, IsOnward, AreOnward}
+use Rattle.regress_engine_memory.specs.Under.{IsFurther, IsOnward, AreOnward}
 use Rattle.regress_engine_memory.specs.Keys.{IsSteady}
 use Rattle.regress_engine_memory.proofs.EachState.{each-append}
 use Rattle.regress_engine_memory.proofs.SameRuns.{agree-append, agree-behind, agree-step, agree-inside, agree-outside}

@@ -15,7 +15,8 @@ use Rattle.regress_engine_memory.specs.Keys.{HaveKey}
 use Rattle.regress_engine_memory.specs.Planes.{FailsAsTold, FailsIn, IsPlaneOf, KnownIn, key_in}
 use Rattle.regress_engine_memory.specs.Remembered.{class_in, keyed_of}
 use Rattle.regress_engine_memory.specs.TableViews.{table_of}
-use Rattle.regress_engine_memory.specs.Under.{HasMoved, room}
+use Rattle.regress_engine_runs.specs.Runs.{room}
+use Rattle.regress_engine_memory.specs.Under.{HasMoved}
 use Rattle.regress_engine_memory.specs.declared.bits.Bits.{Bits}
 use Rattle.regress_engine_memory.specs.declared.failures.Plane.{Plane}
 use Rattle.regress_engine_memory.specs.declared.flow.FlowTable.{FlowTable}

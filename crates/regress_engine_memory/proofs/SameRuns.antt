@@ -4,10 +4,10 @@ use Rattle.std.proofs.Common.{◌≡◌, ℕ, suc, ◌&&◌, ◌==◌, Bool, tru
 use Rattle.regress_meaning.specs.Meaning.{Direction}
 use Rattle.regress_meaning.specs.Inputs.{Input}
 use Rattle.regress_front_nodes.specs.Trees.{Submatch, lookaround, atomic}
-use Rattle.regress_engine_insn.specs.Instructions.{LoopFields, Instruction, Program, Stands}
+use Rattle.regress_engine_insn.specs.Instructions.{LoopFields, Instruction, Program, Stands, surplus}
 use Rattle.regress_engine_insn.specs.Instructions as code
 use Rattle.regress_engine_runs.specs.States.{Marks, Whole, onward, mixed}
-use Rattle.regress_engine_runs.specs.Runs.{Run, ends, finds, goes, looks, successors, after_submatch, moved_to, ordered, choices, one_more, count_of, is_idle, advance, counted}
+use Rattle.regress_engine_runs.specs.Runs.{room, Run, ends, finds, goes, looks, successors, after_submatch, moved_to, ordered, choices, one_more, count_of, is_idle, advance, counted}
 use Rattle.regress_engine_runs.specs.Meets.{referred}
 use Rattle.regress_engine_runs.specs.UndoStack.{whole, at_each}
 use Rattle.regress_engine_search.proofs.InsnLemmas.{again-successors}
@@ -115,7 +115,7 @@ module _ (flow : Flow) where
   agree-on program input dir o ls ms gs hs size at entries (code.end_group k) flows = (handed program input dir o ls ms gs hs size at entries (suc at) o flows _ _, tt)
   agree-on program input dir o ls ms gs hs size at entries (code.reset_group k) flows = (handed program input dir o ls ms gs hs size at entries (suc at) o flows _ _, tt)
   agree-on program input dir o ls ms gs hs size at entries (code.enter_loop f) (told, writes, leaves) =
-      let begun : ℕ × ℕ = (0, o) in
+      let begun : ℕ × ℕ = (surplus f.least (room (length input.units) dir o), o) in
       let other : (id : ℕ) → ((id ≡ f.loop_id → ⊥) → get_or ls id (0, 0) ≡ get_or ms id (0, 0))
       → get_or (slice_set ls f.loop_id begun) id (0, 0) ≡ get_or (slice_set ms f.loop_id begun) id (0, 0) =
       λ id there. set-both (λ x y. x ≡ y) ls ms f.loop_id id begun begun size (λ z. refl) (λ e. refl) there in

@@ -6,7 +6,7 @@ use Rattle.regress_engine_input.specs.Views.{View, AreOfKind, input_of, reading_
 use Rattle.regress_engine_insn.specs.Instructions.{Instruction, Program, Stands}
 use Rattle.regress_engine_insn.specs.Instructions as code
 use Rattle.regress_engine_runs.specs.States.{Whole}
-use Rattle.regress_engine_runs.specs.Runs.{successors, fields_of}
+use Rattle.regress_engine_runs.specs.Runs.{entered, successors, fields_of}
 use Rattle.regress_engine_runs.specs.Meets.{Meets, referred, reads_character, ReadsPlaces}
 use Rattle.regress_engine_search.specs.Search.{Suits}
 use Rattle.regress_engine_memory.specs.Under.{IsOnward, AreOnward}
@@ -25,7 +25,7 @@ module _ (v : View) (all : AreOfKind v.kind v.units) (program : Program) (suits 
   instruction-on (code.begin_group k) s here calm reads = (inl refl, tt)
   instruction-on (code.end_group k) s here calm reads = (inl refl, tt)
   instruction-on (code.reset_group k) s here calm reads = (inl refl, tt)
-  instruction-on (code.enter_loop f) s here calm reads = each-choices (On s.offset) f s.at (record s { loops = slice_set s.loops f.loop_id (0, s.offset) }) (inl refl) (inl refl)
+  instruction-on (code.enter_loop f) s here calm reads = each-choices (On s.offset) f s.at (entered (input_of v) d f s) (inl refl) (inl refl)
   instruction-on (code.loop_again begin) s here calm reads = each-again (On s.offset) (fields_of (slice_get program.instructions begin)) begin s (λ f is. (inl refl, inl refl))
   instruction-on (code.single_loop least most greedy) s here calm reads =
       each-single v all program suits d (On s.offset) s least most greedy here (reads refl).0 (λ q takes. takes.0)

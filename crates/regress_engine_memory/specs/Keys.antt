@@ -4,11 +4,11 @@ use Rattle.regress_meaning.specs.Meaning.{Direction}
 use Rattle.regress_meaning.specs.Inputs.{Input}
 use Rattle.regress_engine_insn.specs.Instructions.{Instruction, Program, Stands}
 use Rattle.regress_engine_runs.specs.States.{Marks, Whole}
-use Rattle.regress_engine_runs.specs.Runs.{is_plain, successors, one_by_one}
+use Rattle.regress_engine_runs.specs.Runs.{is_plain, successors, one_by_one, room}
 use Rattle.regress_engine_runs.specs.Meets.{Meets, referred}
 use Rattle.regress_engine_runs.specs.UndoStack.{Fails, whole}
 use Rattle.regress_engine_memory.specs.Flow.{Flow}
-use Rattle.regress_engine_memory.specs.Under.{room, AreOnward, HasMoved}
+use Rattle.regress_engine_memory.specs.Under.{AreOnward, HasMoved}
 
 -- What is told of a program, and which of its loops are counted: of these a key has the exact count.
 pub record Keyed : Type 0 where

@@ -6,9 +6,8 @@ use Rattle.regress_front_nodes.specs.Trees.{lookaround, atomic}
 use Rattle.regress_engine_insn.specs.Instructions.{LoopFields, Instruction, Program}
 use Rattle.regress_engine_insn.specs.Instructions as code
 use Rattle.regress_engine_runs.specs.States.{Whole}
-use Rattle.regress_engine_runs.specs.Runs.{fields_of}
+use Rattle.regress_engine_runs.specs.Runs.{fields_of, room}
 use Rattle.regress_engine_memory.specs.Passing.{all_pass}
-use Rattle.regress_engine_memory.specs.Under.{room}
 
 -- at least so many units are taken by an instruction that takes characters or bytes
 abbrev pub taken_by : Instruction → ℕ

@@ -3,13 +3,9 @@ use Rattle.std.specs.Prelude.{◌≡◌, ℕ, ◌+◌, ◌-◌, ◌<◌, ◌≤�
 use Rattle.std.specs.List.{AllByRecursion}
 use Rattle.regress_meaning.specs.Meaning.{Direction, Forward, Backward}
 use Rattle.regress_engine_runs.specs.States.{Whole}
+use Rattle.regress_engine_runs.specs.Runs.{room}
 use Rattle.regress_engine_runs.specs.UndoStack.{IsPast}
 use Rattle.regress_engine_memory.specs.Flow.{Flow}
-
--- how many units lie between an offset and the end of a text that is read in a direction; the first number is the last offset
-abbrev pub room : (last : ℕ) → Direction → ℕ → ℕ
-room last Forward o = last - o
-room last Backward o = o
 
 -- the second offset is past the first, where the first is before the last one
 abbrev pub IsFurther : (last : ℕ) → Direction → ℕ → ℕ → Type 0

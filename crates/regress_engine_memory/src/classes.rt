@@ -7,7 +7,8 @@ ghost use Rattle.regress_engine_memory.specs.Deciding.{flow_of, live_at};
 ghost use Rattle.regress_engine_memory.specs.Keys.{class_of};
 ghost use Rattle.regress_engine_memory.specs.Remembered.{HaveClasses, keyed_of};
 ghost use Rattle.regress_engine_memory.specs.TableViews.{table_of};
-ghost use Rattle.regress_engine_memory.specs.Under.{HasMoved, room};
+ghost use Rattle.regress_engine_runs.specs.Runs.{room};
+ghost use Rattle.regress_engine_memory.specs.Under.{HasMoved};
 
 use crate::flow::FlowTable;
 use regress_engine_undo::{Spot, is_ahead};
@@ -74,6 +75,13 @@ impl FlowTable {
             }
         }
         true
+    }
+
+    /// Whether there is a loop of which more than two classes are told apart.
+    pub(crate) fn has_many_classes(&self) -> bool {
+        self.bounds
+            .iter()
+            .any(|bounds| bounds.most <= MOST_COUNTED || bounds.least > 1)
     }
 
     /// A number for a key and for the classes of the loops that are live at an address. Classes that follow one another give numbers

@@ -44,6 +44,8 @@ pub struct Plane {
 pub struct Failures {
     pub(crate) alloc: Global,
     pub(crate) table: FlowTable,
+    /// Whether an address may have more than a few classes.
+    has_many_classes: bool,
     pub(crate) planes: Vec<Plane>,
     /// The first plane of each bucket.
     pub(crate) heads: Vec<Option<usize>>,
@@ -61,9 +63,11 @@ impl Failures {
         ensures table { result.table ≡ table }
         ensures known { (program : Program) → (input : Input) → AreKnown program input result }
     {
+        let has_many_classes = table.has_many_classes();
         Failures {
             alloc,
             table,
+            has_many_classes,
             planes: Vec::new(alloc),
             heads: Vec::new(alloc),
             room,
@@ -86,7 +90,11 @@ impl Failures {
     fn bucket(&self, spot: &Spot, further: bool, loops: &[LoopData<usize>]) -> usize {
         let kind = 2 * spot.forward as usize + further as usize;
         let key = spot.at.wrapping_mul(4).wrapping_add(kind);
-        self.table.hash(key, spot.at, loops) % BUCKETS
+        if self.has_many_classes {
+            self.table.hash(key, spot.at, loops) % BUCKETS
+        } else {
+            key % BUCKETS
+        }
     }
 
     /// The plane of a spot and of the loops that are held, if there is one, of it alone or of all further iterations too.

@@ -5,7 +5,7 @@ ghost use Rattle.regress_meaning.specs.Inputs.{Input};
 ghost use Rattle.regress_engine_input.specs.Views.{AreOfKind, View, direction_of, input_of};
 ghost use Rattle.regress_engine_insn.specs.Instructions.{Instruction, Program};
 ghost use Rattle.regress_engine_runs.specs.Meets.{referred};
-ghost use Rattle.regress_engine_runs.specs.Runs.{Run, advance};
+ghost use Rattle.regress_engine_runs.specs.Runs.{Run, advance, room};
 ghost use Rattle.regress_engine_runs.specs.States.{Marks, Whole};
 ghost use Rattle.regress_engine_runs.specs.UndoStack.{Fails, Work, at_each, tried, whole};
 ghost use Rattle.regress_engine_search.specs.Search.{Suits};
@@ -19,7 +19,7 @@ ghost use Rattle.regress_engine_memory.specs.Flow.{Flow, IsFlow};
 ghost use Rattle.regress_engine_memory.specs.Held.{FailsIfFree, FailsWith};
 ghost use Rattle.regress_engine_memory.specs.Keys.{AllFail, AreFree, ExitsFail, FailsAt, HaveKey, IsSteady, Key, Keyed};
 ghost use Rattle.regress_engine_memory.specs.Needs.{are_needs, need};
-ghost use Rattle.regress_engine_memory.specs.Under.{AreUnder, room};
+ghost use Rattle.regress_engine_memory.specs.Under.{AreUnder};
 
 /// A table that passes its test tells what is so of the program.
 pub fn tables_are_tested()

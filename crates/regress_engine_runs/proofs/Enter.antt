@@ -34,7 +34,7 @@ use Rattle.regress_engine_runs.proofs.Literals.{spelling, alone-step, one-placed
 use Rattle.regress_engine_runs.proofs.Strings.{choosing}
 
 module _ (target : Target) (input : Input) (reading : Reading) (tells : Tells reading input) (told : target.program.units ≡ false → TellsBytes reading input)
-    (made : IsMadeFor target input) where
+    (made : IsMadeFor target input) (whole : offset reading (length reading.points) ≡ length input.units) where
   abbrev context : Context
   context = context_of reading input
 
@@ -209,7 +209,7 @@ module _ (target : Target) (input : Input) (reading : Reading) (tells : Tells re
       (enters n a (reads_backward kind b) (next p) m h lawful.1 once ended))
   enters n (tree.loop a first last least most greedy) b p q (m, begin, reset, h, end) lawful once ended =
       subst (λ r. Enters target input reading b (tree.loop a first last least most greedy) p r) (sym end.1)
-      (repeating target input reading tells.rise b a first last least most greedy p m (record {
+      (repeating target input reading tells.rise whole b a first last least most greedy p m (record {
         begin = subst (λ c. Stands target.program p.address (code.enter_loop (record { loop_id = p.loops; least = least; most = most; greedy = greedy; exit = c })))
             (ap (λ (r : ProgramPoint). r.address) end.1) begin;
         reset = reset;
@@ -218,6 +218,7 @@ module _ (target : Target) (input : Input) (reading : Reading) (tells : Tells re
         bounds = lawful.1;
         rises = Lies-rises target b a _ m h;
         contents = enters n a b _ m h lawful.2 once ended;
+        lawful = (n, lawful.2);
       }))
   enters n tree.goal b p q h lawful once ended = absurd (omega (arith, ended))
   enters n (tree.bytes bs) b p q h lawful once ended = spelling target input reading tells told b bs p q lawful h

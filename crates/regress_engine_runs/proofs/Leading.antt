@@ -1,5 +1,5 @@
--- Lists of whole states that expand, item by item, to what lists of states stand for.
-use Rattle.std.proofs.Common.{◌≡◌, Bool, true, false, List, [], ◌∷◌, ◌++◌, if◌then◌else◌, filter, map, flat_map, refl, ap, subst}
+-- Lists of whole states that expand, item by item, to what lists of states stand for, but for what is never the first to answer.
+use Rattle.std.proofs.Common.{◌≡◌, Bool, true, false, List, [], ◌∷◌, ◌++◌, if◌then◌else◌, filter, map, flat_map, refl, ap, ◌∙◌, subst}
 use Rattle.std.proofs.lemmas.List.Concat.{flat_map_single}
 use Rattle.regress_meaning.specs.Meaning.{State, Direction}
 use Rattle.regress_meaning.specs.Inputs.{Input}
@@ -7,6 +7,7 @@ use Rattle.regress_meaning.specs.Offsets.{Reading}
 use Rattle.regress_front_nodes.proofs.StepLemmas.{flat_map-self}
 use Rattle.regress_engine_insn.specs.Instructions.{Program}
 use Rattle.regress_engine_runs.specs.States.{Whole}
+use Rattle.regress_engine_runs.proofs.FirstAnswers.{AnswerAlike, alike-append, alike-flat}
 use Rattle.regress_engine_runs.proofs.RunLemmas.{Expands, Expands-same, Expands-then, Expands-left, Expands-right}
 
 -- the two lists are of one length, and each two items belong together
@@ -42,26 +43,36 @@ flat_map-filter f test (s ∷ ss) = by_test (test s) refl (flat_map-filter f tes
     by_test false e rest = rw e rest
 
 module _ (program : Program) (input : Input) (reading : Reading) where
-  -- The whole states expand to some that belong to the states, one by one.
-  abbrev pub Leads : Direction → (State → Whole → Type 0) → List Whole → List State → Type 0
-  Leads dir R ws ss = (vs : List Whole) × Expands program input reading dir ws vs × Pairwise R ss vs
+  -- The whole states expand to some that belong one by one to states, of which the same one answers first as of those.
+  pub record Leads (dir : Direction) (R : State → Whole → Type 0) (ws : List Whole) (ss : List State) : Type 0 where
+    pub states : List State
+    pub wholes : List Whole
+    pub alike : AnswerAlike states ss
+    pub expand : Expands program input reading dir ws wholes
+    pub belong : Pairwise R states wholes
 
   pub leads_at_once : {dir : Direction} (R : State → Whole → Type 0) (ss : List State) (ws : List Whole) → Pairwise R ss ws → Leads dir R ws ss
-  leads_at_once {dir = dir} R ss ws h = (ws, Expands-same program input reading dir ws, h)
+  leads_at_once {dir = dir} R ss ws h = record { states = ss; wholes = ws; alike = λ ask. refl; expand = Expands-same program input reading dir ws; belong = h }
 
   -- first a step
   pub first_expand : {dir : Direction} (R : State → Whole → Type 0) (us ws : List Whole) (ss : List State)
       → Expands program input reading dir us ws → Leads dir R ws ss → Leads dir R us ss
-  first_expand R us ws ss e (vs, f, h) = (vs, Expands-then program input reading us ws vs e f, h)
+  first_expand R us ws ss e l = record { states = l.states; wholes = l.wholes; alike = l.alike; expand = Expands-then program input reading us ws l.wholes e l.expand; belong = l.belong }
+
+  -- to states of which the same one answers first
+  pub leads_alike : {dir : Direction} (R : State → Whole → Type 0) (ws : List Whole) (ss ts : List State) → AnswerAlike ss ts → Leads dir R ws ss → Leads dir R ws ts
+  leads_alike R ws ss ts same l = record { states = l.states; wholes = l.wholes; alike = λ ask. l.alike ask ∙ same ask; expand = l.expand; belong = l.belong }
 
   -- side by side
   pub leads_beside : {dir : Direction} (R : State → Whole → Type 0) (us ws : List Whole) (ss ts : List State)
       → Leads dir R us ss → Leads dir R ws ts → Leads dir R (us ++ ws) (ss ++ ts)
-  leads_beside R us ws ss ts (xs, e, h) (ys, f, k) = (
-    xs ++ ys,
-    Expands-then program input reading (us ++ ws) (xs ++ ws) (xs ++ ys) (Expands-right program input reading us xs ws e) (Expands-left program input reading xs ws ys f),
-    Pairwise-append R ss xs ts ys h k,
-  )
+  leads_beside R us ws ss ts l m = record {
+    states = l.states ++ m.states;
+    wholes = l.wholes ++ m.wholes;
+    alike = alike-append l.states m.states ss ts l.alike m.alike;
+    expand = Expands-then program input reading (us ++ ws) (l.wholes ++ ws) (l.wholes ++ m.wholes) (Expands-right program input reading us l.wholes ws l.expand) (Expands-left program input reading l.wholes ws m.wholes m.expand);
+    belong = Pairwise-append R l.states l.wholes m.states m.wholes l.belong m.belong;
+  }
 
   -- each on
   pub leads_each : {dir : Direction} (R Q : State → Whole → Type 0) (f : State → List State)
@@ -76,7 +87,9 @@ module _ (program : Program) (input : Input) (reading : Reading) where
   -- one after another
   pub leads_on : {dir : Direction} (R Q : State → Whole → Type 0) (f : State → List State) (ws : List Whole) (ss : List State)
       → Leads dir R ws ss → ((s : State) (w : Whole) → R s w → Leads dir Q (w ∷ []) (f s)) → Leads dir Q ws (flat_map f ss)
-  leads_on R Q f ws ss (vs, e, h) on = first_expand Q ws vs (flat_map f ss) e (leads_each R Q f on ss vs h)
+  leads_on R Q f ws ss l on =
+      leads_alike Q ws (flat_map f l.states) (flat_map f ss) (alike-flat f l.states ss l.alike)
+      (first_expand Q ws l.wholes (flat_map f l.states) l.expand (leads_each R Q f on l.states l.wholes l.belong))
 
   -- each to one
   pub leads_to_one : {dir : Direction} (R Q : State → Whole → Type 0) (f : State → State) (ws : List Whole) (ss : List State)
@@ -91,4 +104,4 @@ module _ (program : Program) (input : Input) (reading : Reading) where
 
   pub leads_weaker : {dir : Direction} (R Q : State → Whole → Type 0) → ((s : State) (w : Whole) → R s w → Q s w)
       → (ws : List Whole) (ss : List State) → Leads dir R ws ss → Leads dir Q ws ss
-  leads_weaker R Q weaker ws ss (vs, e, h) = (vs, e, Pairwise-weaker R Q weaker ss vs h)
+  leads_weaker R Q weaker ws ss l = record { states = l.states; wholes = l.wholes; alike = l.alike; expand = l.expand; belong = Pairwise-weaker R Q weaker l.states l.wholes l.belong }

@@ -8,11 +8,14 @@ pub mod UndoLemmas
 pub mod ReadLemmas
 pub mod TriedLemmas
 pub mod TriedReads
+pub mod FirstAnswers
+pub mod Surplus
 pub mod Leading
 pub mod Places
 pub mod Entering
 pub mod Groups
 pub mod Looks
+pub mod Untouched
 pub mod Loops
 pub mod Neighbours
 pub mod Sets

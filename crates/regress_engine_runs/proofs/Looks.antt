@@ -15,6 +15,7 @@ use Rattle.regress_engine_insn.specs.Layout.{ProgramPoint, next, Target}
 use Rattle.regress_engine_runs.specs.States.{Whole, Marks, unset, mixed, onward}
 use Rattle.regress_engine_runs.specs.Stand.{StandsFor}
 use Rattle.regress_engine_runs.proofs.SafeRuns.{SafeRuns, ends, finds}
+use Rattle.regress_engine_runs.proofs.FirstAnswers.{alike-submatched}
 use Rattle.regress_engine_runs.proofs.RunLemmas.{Expands, looks_around}
 use Rattle.regress_engine_runs.proofs.Leading.{Leads, Pairwise, leads_at_once, first_expand}
 use Rattle.regress_engine_runs.proofs.Places.{occurs, occurs-is, Arrives}
@@ -143,16 +144,24 @@ module _ (target : Target) (input : Input) (reading : Reading) where
       )))
       (looks_around target.program input reading atomic first last (suc m.address) w (Some v) here (e [] (Some v) run))
 
+  -- the contents lead to their answer
+  behind_answer : (dir : Direction) (kind : Submatch) (first last : ℕ) (a : Tree) (p m : ProgramPoint) (s : State) (w : Whole)
+      → Stands target.program w.at (code.submatch kind first last (suc m.address)) → Stands target.program m.address code.goal
+      → AreNumbered first last (group_ids a) → StandsFor reading s w → (us : List State)
+      → Leads target.program input reading (submatch_direction kind dir) (Arrives reading (submatch_direction kind dir) m.address (λ k. occurs k a) p.loops m.loops s.place w) (onward w ∷ []) us
+      → Leads target.program input reading dir (Arrives reading dir (suc m.address) (λ k. occurs k a) p.loops m.loops s.place w) (w ∷ []) (submatched kind s us)
+  behind_answer dir kind first last a p m s w here end numbered stands us l =
+      subst (Leads target.program input reading dir (Arrives reading dir (suc m.address) (λ k. occurs k a) p.loops m.loops s.place w) (w ∷ [])) (alike-submatched kind s l.states us l.alike)
+      (by_answer dir kind first last a p m s w here end numbered stands l.states l.wholes l.belong l.expand)
+
   pub looking : (b : Bool) (kind : Submatch) (first last : ℕ) (a : Tree) (p m : ProgramPoint)
       → Stands target.program p.address (code.submatch kind first last (suc m.address)) → Stands target.program m.address code.goal
       → AreNumbered first last (group_ids a) → Enters target input reading (reads_backward kind b) a (next p) m
       → Enters target input reading b (tree.submatch kind first last a) p (next m)
   unfolding node_outcomes
   looking b (lookaround negated behind) first last a p m begin end numbered inner s w at stands may =
-      let found = inner s (onward w) (ap suc at) stands may in
-      by_answer (direction b) (lookaround negated behind) first last a p m s w (standing target input reading w at begin) end numbered stands
-      (node_outcomes (context_of reading input) a (direction behind) s) found.0 found.2 found.1
+      behind_answer (direction b) (lookaround negated behind) first last a p m s w (standing target input reading w at begin) end numbered stands
+      (node_outcomes (context_of reading input) a (direction behind) s) (inner s (onward w) (ap suc at) stands may)
   looking b atomic first last a p m begin end numbered inner s w at stands may =
-      let found = inner s (onward w) (ap suc at) stands may in
-      by_answer (direction b) atomic first last a p m s w (standing target input reading w at begin) end numbered stands
-      (node_outcomes (context_of reading input) a (direction b) s) found.0 found.2 found.1
+      behind_answer (direction b) atomic first last a p m s w (standing target input reading w at begin) end numbered stands
+      (node_outcomes (context_of reading input) a (direction b) s) (inner s (onward w) (ap suc at) stands may)

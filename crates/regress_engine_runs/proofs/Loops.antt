@@ -1,27 +1,32 @@
 -- Entering a repetition.
 use Rattle.std.specs.Prelude.{nat_le, nat_lt, slice_set, slice_get, filter}
-use Rattle.std.proofs.Common.{◌≡◌, ◌⊎◌, inl, inr, ℕ, zero, suc, ◌+◌, ◌-◌, ◌<◌, ◌≤◌, ◌≢◌, ◌==◌, ◌&&◌, not, Bool, true, false, List, [], ◌∷◌, ◌++◌, length, Option, Some, None, if◌then◌else◌, get_or, set, flat_map, refl, sym, ap, ap₂, ◌∙◌, subst, arith, option_map, get_or-set_same, get_or-set_other, length-set}
-use Rattle.std.proofs.lemmas.Bool.{cases_lt, eq-eqb, le-leb, lt-leb, ne_eqb, le-ltb, lt-ltb}
+use Rattle.std.proofs.Common.{◌≡◌, ◌⊎◌, inl, inr, ℕ, zero, suc, ◌+◌, ◌-◌, ◌<◌, ◌≤◌, ◌≢◌, ◌==◌, ◌&&◌, not, Bool, true, false, List, [], ◌∷◌, ◌++◌, length, All, Option, Some, None, if◌then◌else◌, get_or, set, flat_map, refl, sym, ap, ap₂, ◌∙◌, subst, arith, option_map, get_or-set_same, get_or-set_other, length-set}
+use Rattle.std.proofs.lemmas.List.Elements.{All-weaker}
+use Rattle.std.proofs.lemmas.Bool.{cases_eq, cases_lt, eq-eqb, le-leb, lt-leb, ne_eqb, le-ltb, lt-ltb}
 use Rattle.std.proofs.lemmas.Bool.Decides.{nat_tests}
-use Rattle.regress_meaning.specs.Meaning.{State, Direction, Forward, Context, iterations, cleared, clear_from, moved}
+use Rattle.regress_meaning.specs.Meaning.{State, Direction, Forward, Backward, Context, iterations, cleared, clear_from, moved}
 use Rattle.regress_meaning.specs.Offsets.{Reading, offset, offset_range}
-use Rattle.regress_meaning.specs.Laws.{OffsetsRise}
+use Rattle.regress_meaning.specs.Laws.{OffsetsRise, IsAhead, IsInside}
 use Rattle.regress_meaning.specs.Inputs.{Input, context_of}
-use Rattle.regress_meaning.proofs.StepLaws.{IsAhead-then, Leads-cleared, Leads as Progresses}
+use Rattle.regress_meaning.proofs.StepLaws.{IsAhead-then, Leads-cleared, To, cleared-inside, Leads as Progresses}
+use Rattle.regress_front_nodes.proofs.OutcomeLemmas.{Goes-outcomes}
 use Rattle.regress_front_nodes.specs.Trees.{Tree}
 use Rattle.regress_front_nodes.specs.Trees as tree
 use Rattle.regress_front_nodes.specs.TreeMeaning.{node_outcomes, direction}
-use Rattle.regress_front_nodes.specs.WellFormed.{group_ids, AreNumbered}
-use Rattle.regress_engine_insn.specs.Instructions.{LoopFields, Program, Instruction, Stands, StandFrom}
+use Rattle.regress_front_nodes.specs.WellFormed.{group_ids, AreNumbered, AreLawful}
+use Rattle.regress_engine_insn.specs.Instructions.{LoopFields, Program, Instruction, Stands, StandFrom, surplus}
 use Rattle.regress_engine_insn.specs.Instructions as code
 use Rattle.regress_engine_insn.specs.Layout.{ProgramPoint, next, Target, resets}
 use Rattle.regress_engine_runs.specs.States.{Whole, Marks, unset, range_of, onward}
-use Rattle.regress_engine_runs.specs.Runs.{ordered, count_of, one_more, choices, is_idle, fields_of, successors}
+use Rattle.regress_engine_runs.specs.Runs.{ordered, count_of, one_more, choices, is_idle, fields_of, successors, room}
 use Rattle.regress_engine_runs.specs.Stand.{StandsFor, AreOf}
 use Rattle.regress_engine_runs.proofs.RunLemmas.{Expands, Expands-same, Expands-then, steps}
-use Rattle.regress_engine_runs.proofs.Leading.{Leads, flat_map-filter, leads_at_once, first_expand, leads_beside, leads_on, leads_weaker}
+use Rattle.regress_engine_runs.proofs.FirstAnswers.{AnswerAlike, first_answer}
+use Rattle.regress_engine_runs.proofs.Surplus.{IsIteration, fewer}
+use Rattle.regress_engine_runs.proofs.Leading.{Leads, flat_map-filter, leads_alike, leads_at_once, first_expand, leads_beside, leads_on, leads_weaker}
 use Rattle.regress_engine_runs.proofs.Places.{occurs, AreFree, Arrives, Keeps-again}
 use Rattle.regress_engine_runs.proofs.Looks.{is_within, outside_none, inside_one}
+use Rattle.regress_engine_runs.proofs.Untouched.{All-both, get_or-clear, clear-same, AsBefore, spares-outcomes}
 use Rattle.regress_engine_runs.proofs.Entering.{Enters, standing, stays}
 
 -- ---- groups are reset
@@ -89,19 +94,6 @@ pub within-false : (first last k : ℕ) → (k < first) ⊎ (last ≤ k) → is_
 within-false first last k (inl o) = grind (arith, nat_tests)
 within-false first last k (inr o) = grind (arith, nat_tests)
 
-none-both : (b : Bool) → let none : Option (ℕ × ℕ) = None in none ≡ (if b then none else none)
-none-both true = refl
-none-both false = refl
-
-get_or-clear : (i first last : ℕ) (gs : List (Option (ℕ × ℕ))) (k : ℕ)
-    → get_or (clear_from i first last gs) k None ≡ (if is_within first last (i + k) then None else get_or gs k None)
-get_or-clear i first last [] k = none-both (is_within first last (i + k))
-get_or-clear i first last (g ∷ gs) zero =
-    let e : i + 0 ≡ i = omega arith in ap (λ j. if is_within first last j then None else g) (sym e)
-get_or-clear i first last (g ∷ gs) (suc k) =
-    let e : i + suc k ≡ (i + 1) + k = omega arith in
-    get_or-clear (i + 1) first last gs k ∙ ap (λ j. if is_within first last j then None else get_or gs k None) (sym e)
-
 -- a state whose groups are reset stands for one whose groups are cleared
 pub cleared-stands : (input : Input) (reading : Reading) (first last : ℕ) (s : State) (o : ℕ) (old new : List Marks) → first ≤ last
     → AreOf reading s o old → AreReset first (last - first) old new → AreOf reading (cleared first last s) o new
@@ -164,7 +156,33 @@ same_offset reading rise p q low high = by_place (cases_lt p q) (cases_lt q p)
 
 -- ---- a repetition
 
-module _ (target : Target) (input : Input) (reading : Reading) (rise : OffsetsRise reading) (b : Bool) (a : Tree) (first last least most : ℕ) (greedy : Bool) (p m : ProgramPoint) where
+-- units lie between places, at least as many as places do
+gap-fits : (reading : Reading) → OffsetsRise reading → (d p : ℕ) → p + d ≤ length reading.points → offset reading p + d ≤ offset reading (p + d)
+gap-fits reading rise zero p inside =
+    let e : p + 0 ≡ p = omega arith in let same = ap (offset reading) e in omega (arith, same)
+gap-fits reading rise (suc d) p inside =
+    let e : p + suc d ≡ suc (p + d) = omega arith in
+    let same = ap (offset reading) e in
+    let before = gap-fits reading rise d p (omega (arith, inside)) in
+    let next = rise (p + d) (suc (p + d)) (omega arith) (omega (arith, inside)) in
+    omega (arith, same, before, next)
+
+-- so no fewer lie ahead
+room-fits : (reading : Reading) → OffsetsRise reading → (units : ℕ) → offset reading (length reading.points) ≡ units → (dir : Direction) (p : ℕ) → p ≤ length reading.points
+    → room (length reading.points) dir p ≤ room units dir (offset reading p)
+room-fits reading rise units whole Forward p inside =
+    let d : ℕ = length reading.points - p in
+    let e : p + d ≡ length reading.points = omega (arith, inside) in
+    let same = ap (offset reading) e in
+    let fits = gap-fits reading rise d p (omega (arith, e)) in
+    omega (arith, same, fits, whole)
+room-fits reading rise units whole Backward p inside =
+    let e : 0 + p ≡ p = omega arith in
+    let same = ap (offset reading) e in
+    let fits = gap-fits reading rise p 0 (omega (arith, inside)) in
+    omega (arith, same, fits)
+
+module _ (target : Target) (input : Input) (reading : Reading) (rise : OffsetsRise reading) (whole : offset reading (length reading.points) ≡ length input.units) (b : Bool) (a : Tree) (first last least most : ℕ) (greedy : Bool) (p m : ProgramPoint) where
   abbrev pub dir : Direction
   dir = direction b
 
@@ -181,6 +199,10 @@ module _ (target : Target) (input : Input) (reading : Reading) (rise : OffsetsRi
   abbrev pub body : State → List State
   body s = node_outcomes context a dir (cleared first last s)
 
+  -- how many places lie ahead
+  abbrev pub ahead : State → ℕ
+  ahead s = room (length reading.points) dir s.place
+
   -- where its contents begin
   abbrev pub inner : ProgramPoint
   inner = record { address = suc p.address + (last - first); loops = suc p.loops }
@@ -194,6 +216,7 @@ module _ (target : Target) (input : Input) (reading : Reading) (rise : OffsetsRi
     pub bounds : least ≤ most
     pub rises : suc p.loops ≤ m.loops
     pub contents : Enters target input reading b a inner m
+    pub lawful : (n : ℕ) × AreLawful n a
 
   -- a state has room for its loops and groups
   record HasRoom (w : Whole) : Type 0 where
@@ -390,32 +413,112 @@ module _ (target : Target) (input : Input) (reading : Reading) (rise : OffsetsRi
       subst (λ xs. Leads target.program input reading dir (Out s w) xs (if greedy then flat_map on (filter (moved s) (body s)) ++ s ∷ [] else s ∷ flat_map on (filter (moved s) (body s)))) (sym e)
       (both greedy s w (flat_map on (filter (moved s) (body s))) (subst (Leads target.program input reading dir (Out s w) (v ∷ [])) (sym f) more) stands)
 
+  -- each iteration takes something, or leads to where the next one leads to the same
+  iterates : IsRepetition → (s : State) → IsInside reading.points s → All (IsIteration body greedy ahead (IsInside reading.points) s) (body s)
+  iterates h s inside = All-weaker Goes-on (IsIteration body greedy ahead (IsInside reading.points) s) on (body s) (All-both (To context dir (cleared first last s)) (AsBefore context Outside (cleared first last s)) (body s) went kept)
+    where
+      Outside : ℕ → Type 0
+      Outside k = is_within first last k ≡ false
+
+      Goes-on : State → Type 0
+      Goes-on u = To context dir (cleared first last s) u × AsBefore context Outside (cleared first last s) u
+
+      went : All (To context dir (cleared first last s)) (body s)
+      went = Goes-outcomes context a dir (cleared first last s)
+
+      kept : All (AsBefore context Outside (cleared first last s)) (body s)
+      kept = spares-outcomes context Outside h.lawful.0 a h.lawful.1 (λ k o. outside_none first last a h.numbered k o) dir (cleared first last s)
+
+      on : (u : State) → Goes-on u → IsIteration body greedy ahead (IsInside reading.points) s u
+      on u (led, before) = record { within = within; takes = by_place (cases_eq u.place s.place) }
+        where
+          within : IsInside reading.points u
+          within = led.inside (cleared-inside context first last s inside)
+
+          less : (d : Direction) → IsAhead d s.place u.place → (u.place ≡ s.place → ⊥) → room (length reading.points) d u.place < room (length reading.points) d s.place
+          less Forward low differs = by_order (cases_lt s.place u.place)
+            where
+              by_order : (s.place < u.place) ⊎ (u.place ≤ s.place) → length reading.points - u.place < length reading.points - s.place
+              by_order (inl x) = let end = within.place in omega (arith, end)
+              by_order (inr x) = absurd (differs (omega (arith, low)))
+          less Backward low differs = by_order (cases_lt u.place s.place)
+            where
+              by_order : (u.place < s.place) ⊎ (s.place ≤ u.place) → u.place < s.place
+              by_order (inl x) = x
+              by_order (inr x) = absurd (differs (omega (arith, low)))
+
+          same-cleared : u.place ≡ s.place → cleared first last u ≡ cleared first last s
+          same-cleared e =
+              let gs : clear_from 0 first last u.groups ≡ clear_from 0 first last s.groups =
+              clear-same 0 first last u.groups s.groups (led.count ∙ (Leads-cleared context dir first last s).count) (λ k t. let e : 0 + k ≡ k = omega arith in let o = sym (ap (is_within first last) e) ∙ t in before k o ∙ uncleared k o) in
+              (λ i. record { place = e i; groups = gs i })
+            where
+              uncleared : (k : ℕ) → is_within first last k ≡ false → get_or (clear_from 0 first last s.groups) k None ≡ get_or s.groups k None
+              uncleared k t =
+                  let e : 0 + k ≡ k = omega arith in
+                  get_or-clear 0 first last s.groups k ∙ ap (λ (c : Bool). if c then None else get_or s.groups k None) (ap (is_within first last) e ∙ t)
+
+          by_place : (u.place ≡ s.place) ⊎ (u.place ≡ s.place → ⊥) → (ahead u < ahead s) ⊎ (body u ≡ body s)
+          by_place (inl e) = inr (ap (node_outcomes context a dir) (same-cleared e))
+          by_place (inr ne) = inl (less dir led.ahead ne)
+
+  -- the iterations that are taken as done may be left out
+  enough : IsRepetition → (s : State) (w : Whole) → StandsFor reading s w
+      → let done : ℕ = surplus least (room (length input.units) dir w.offset) in
+      AnswerAlike (iterations body greedy (most - done) (least - done) s) (iterations body greedy most least s)
+  enough h s w stands = by_number done refl
+    where
+      done : ℕ
+      done = surplus least (room (length input.units) dir w.offset)
+
+      Same : ℕ → ℕ → Type 0
+      Same left need = AnswerAlike (iterations body greedy left need s) (iterations body greedy most least s)
+
+      by_number : (n : ℕ) → done ≡ n → Same (most - done) (least - done)
+      by_number zero e =
+          let l : most - done ≡ most = omega (arith, e) in
+          let n : least - done ≡ least = omega (arith, e) in
+          λ ask. ap₂ (λ x y. first_answer ask (iterations body greedy x y s)) l n
+      by_number (suc k) e =
+          let bounds = h.bounds in
+          let l : done + (most - done) ≡ most = omega (arith, bounds) in
+          let n : done + (least - done) ≡ least = omega arith in
+          let fits = room-fits reading rise (length input.units) whole dir s.place stands.inside.place in
+          let place = ap (room (length input.units) dir) stands.place in
+          let more : ahead s < least - done = omega (arith, e, fits, place) in
+          λ ask. sym (fewer body greedy ahead (IsInside reading.points) (iterates h) done (least - done) (most - done) s stands.inside more (omega (arith, bounds)) ask)
+          ∙ ap₂ (λ x y. first_answer ask (iterations body greedy x y s)) l n
+
   -- entering the repetition
   pub repeating : IsRepetition → Enters target input reading b (tree.loop a first last least most greedy) p (next m)
   unfolding node_outcomes
   repeating h s w at stands may =
       let own : p.loops < length w.loops = omega (arith, h.rises, may.loops) in
-      let v : Whole = record w { loops = slice_set w.loops p.loops (0, w.offset) } in
-      let none : count_of p.loops v ≡ 0 = ap (λ (y : ℕ × ℕ). y.0) (get_or-set_same w.loops p.loops (0, w.offset) (0, 0) own) in
-      let size : length v.loops ≡ length w.loops = length-set w.loops p.loops (0, w.offset) in
-      let room : HasRoom v = record { loops = omega (arith, may.loops, size); groups = may.here } in
+      let done : ℕ = surplus least (room (length input.units) dir w.offset) in
+      let v : Whole = record w { loops = slice_set w.loops p.loops (done, w.offset) } in
+      let count : count_of p.loops v ≡ done = ap (λ (y : ℕ × ℕ). y.0) (get_or-set_same w.loops p.loops (done, w.offset) (0, 0) own) in
+      let size : length v.loops ≡ length w.loops = length-set w.loops p.loops (done, w.offset) in
+      let room' : HasRoom v = record { loops = omega (arith, may.loops, size); groups = may.here } in
       let us : List State = iterations body greedy most least s in
+      let vs : List State = iterations body greedy (most - done) (least - done) s in
       let step : Expands target.program input reading dir (w ∷ []) (choices fields w.at v) =
       steps target.program input reading (code.enter_loop fields) w (standing target input reading w at h.begin) refl (λ e. absurd (grind arith)) in
+      let bounds = h.bounds in
       first_expand target.program input reading (Out s w) (w ∷ []) (choices fields p.address v) us
       (subst (λ a. Expands target.program input reading dir (w ∷ []) (choices fields a v)) at step)
+      (leads_alike target.program input reading (Out s w) (choices fields p.address v) vs us (enough h s w stands)
       (leads_weaker target.program input reading (Out s v) (Out s w) (λ u x o. record {
         at = o.at;
         stands = o.stands;
         keeps = record {
-          loops = λ k out. o.keeps.loops k out ∙ get_or-set_other w.loops p.loops k (0, w.offset) (0, 0) (apart h.rises k out);
+          loops = λ k out. o.keeps.loops k out ∙ get_or-set_other w.loops p.loops k (done, w.offset) (0, 0) (apart h.rises k out);
           loop_count = o.keeps.loop_count ∙ size;
           groups = o.keeps.groups;
           group_count = o.keeps.group_count;
         };
         ahead = o.ahead;
-      }) (choices fields p.address v) us
-      (again h most least s v (omega (arith, none)) (omega (arith, none)) stands room))
+      }) (choices fields p.address v) vs
+      (again h (most - done) (least - done) s v (omega (arith, count, bounds)) (omega (arith, count)) stands room')))
     where
       apart : suc p.loops ≤ m.loops → (k : ℕ) → (k < p.loops) ⊎ (m.loops ≤ k) → k ≢ p.loops
       apart r k (inl o) e = absurd (omega arith)

@@ -21,6 +21,7 @@ use Rattle.regress_engine_runs.specs.States.{Whole, unset, range_of, first_state
 use Rattle.regress_engine_runs.specs.Stand.{StandsFor, IsMadeFor, IsFirst, RunsAsTree}
 use Rattle.regress_engine_runs.proofs.SafeRuns.{SafeRuns, safe-run, ends, finds}
 use Rattle.regress_engine_runs.proofs.RunLemmas.{Expands}
+use Rattle.regress_engine_runs.proofs.FirstAnswers.{alike-head, head}
 use Rattle.regress_engine_runs.proofs.Leading.{Leads, Pairwise, leads_at_once, leads_on}
 use Rattle.regress_engine_runs.proofs.Places.{occurs, AreFree, MayEnter, MayEnter-part, MayEnter-after, Arrives, Lies-rises}
 use Rattle.regress_engine_runs.proofs.Entering.{standing}
@@ -44,7 +45,7 @@ goals-last (tree.cat a c) e = by_part (part_cases a c) (goals-last a) (goals-las
 goals-last _ e = absurd (grind arith)
 
 module _ (target : Target) (input : Input) (reading : Reading) (tells : Tells reading input) (told : target.program.units ≡ false → TellsBytes reading input)
-    (made : IsMadeFor target input) where
+    (made : IsMadeFor target input) (whole : offset reading (length reading.points) ≡ length input.units) where
   -- it stands at a goal for a state
   abbrev AtGoal : State → Whole → Type 0
   AtGoal s v = Stands target.program v.at code.goal × StandsFor reading s v
@@ -87,7 +88,7 @@ module _ (target : Target) (input : Input) (reading : Reading) (tells : Tells re
           let some = goals-last c (sym y ∙ last) in
           let R : State → Whole → Type 0 = Arrives reading dir m.address (λ k. occurs k a) p.loops m.loops s.place w in
           leads_on target.program input reading R AtGoal (out c) (w ∷ []) (out a s)
-          (enters target input reading tells told made n a b p m h lawful.0 (λ i. omega (arith, once i)) (omega (arith, one, some)) s w at stands
+          (enters target input reading tells told made whole n a b p m h lawful.0 (λ i. omega (arith, once i)) (omega (arith, one, some)) s w at stands
           (MayEnter-part (λ k. occurs k a) (λ k. occurs k a + occurs k c) m.loops q.loops w (λ k. omega arith) above may))
           (λ x v r. g (omega (arith, one, some)) (sym y ∙ last) x v r.at r.stands
           (MayEnter-after (λ k. occurs k a) (λ k. occurs k c) p.loops m.loops q.loops w v once r.keeps
@@ -101,6 +102,16 @@ module _ (target : Target) (input : Input) (reading : Reading) (tells : Tells re
   first_at_goal dir ws (v ∷ vs) [] e h = absurd h
   first_at_goal dir ws [] (s ∷ ss) e h = absurd h
   first_at_goal dir ws (v ∷ vs) (s ∷ ss) e ((here, stands), rest) = (Some v, e [] (Some v) (1, finds here), (v, refl, stands))
+
+  -- so it is the first of states that begin alike
+  first_is : (ss ts : List State) (r : Option Whole) → head ss ≡ head ts → IsFirst reading ss r → IsFirst reading ts r
+  first_is [] [] r same first = first
+  first_is [] (t ∷ ts) r same first = absurd (cc)
+  first_is (s ∷ ss) [] r same first = absurd (cc)
+  first_is (s ∷ ss) (t ∷ ts) r same first = subst (λ x. IsFirst reading (x ∷ ts) r) (is-some same) first
+    where
+      is-some : ◌≡◌ {A = Option State} (Some s) (Some t) → s ≡ t
+      is-some e = cc
 
   -- the groups of a whole tree are below their number, each once
   number_of : (n k : ℕ) (t : Tree) → AreNumbered 0 n (group_ids t) → (occurs k t ≤ 1) × (0 < occurs k t → k < n)
@@ -150,7 +161,8 @@ module _ (target : Target) (input : Input) (reading : Reading) (tells : Tells re
       } in
       let led = ends_at_goal n t false start end layout.lies formed.lawful (λ k. (number_of n k t formed.numbered).0) formed.one_goal formed.ended
       s w refl (nothing_set n place room layout.groups) may in
-      first_at_goal Forward (w ∷ []) led.0 (node_outcomes (context_of reading input) t Forward s) led.1 led.2
+      let (r, run, first) = first_at_goal Forward (w ∷ []) led.wholes led.states led.expand led.belong in
+      (r, run, first_is led.states (node_outcomes (context_of reading input) t Forward s) r (alike-head led.states (node_outcomes (context_of reading input) t Forward s) led.alike) first)
 
   -- So it runs as the tree.
   pub runs_as_tree : (n : ℕ) (t : Tree) → IsWellFormed n t → IsLayout target n t → RunsAsTree target.program input reading n t

@@ -1,13 +1,13 @@
 -- What a program does: how its instructions lead from state to state, and what a run of it answers. It sees a text through
 -- an input.
-use Rattle.std.specs.Prelude.{◌≡◌, ℕ, zero, suc, ◌+◌, ◌-◌, Bool, true, false, not, ◌&&◌, ◌==◌, List, [], ◌∷◌, ◌++◌, Option, Some, None, if◌then◌else◌, slice_get, slice_set, get_or, map, nat_lt, nat_le, nat_eq, option_and_then}
+use Rattle.std.specs.Prelude.{◌≡◌, ℕ, zero, suc, ◌+◌, ◌-◌, Bool, true, false, not, ◌&&◌, ◌==◌, List, [], ◌∷◌, ◌++◌, length, Option, Some, None, if◌then◌else◌, slice_get, slice_set, get_or, map, nat_lt, nat_le, nat_eq, option_and_then}
 use Rattle.regress_meaning.specs.Text.{holds}
 use Rattle.regress_meaning.specs.Meaning.{Direction, Forward, Backward, is_line_end}
 use Rattle.regress_meaning.specs.Inputs.{Input}
 use Rattle.regress_meaning.specs.Steps.{passed, only_if, literal, repeated, begins_line, ends_line, at_boundary}
 use Rattle.regress_front_nodes.specs.TreeMeaning.{submatch_direction, bracket_has}
 use Rattle.regress_front_nodes.specs.Trees.{Submatch, lookaround, atomic}
-use Rattle.regress_engine_insn.specs.Instructions.{LoopFields, Instruction, Program, Stands}
+use Rattle.regress_engine_insn.specs.Instructions.{LoopFields, Instruction, Program, Stands, surplus}
 use Rattle.regress_engine_insn.specs.Instructions as code
 use Rattle.regress_engine_runs.specs.States.{Marks, unset, range_of, Whole, onward, begun, ended, mixed}
 
@@ -41,6 +41,15 @@ ordered greedy more out s t =
     let first = if more then s ∷ [] else [] in
     let second = if out then t ∷ [] else [] in
     if greedy then first ++ second else second ++ first
+
+-- how many units lie between an offset and the end of a text that is read in a direction; the first number is the last offset
+abbrev pub room : (last : ℕ) → Direction → ℕ → ℕ
+room last Forward o = last - o
+room last Backward o = o
+
+-- the state in which a repetition begins: so many of its iterations are taken as done
+abbrev pub entered : Input → Direction → LoopFields → Whole → Whole
+entered input dir f s = record s { loops = slice_set s.loops f.loop_id (surplus f.least (room (length input.units) dir s.offset), s.offset) }
 
 -- how a repetition that begins at an address goes on
 abbrev pub choices : LoopFields → (begin : ℕ) → Whole → List Whole
@@ -170,7 +179,7 @@ module _ (program : Program) (input : Input) where
   successors (code.end_group k) dir s =
       onward (record s { groups = slice_set s.groups k (ended dir s.offset (get_or s.groups k unset)) }) ∷ []
   successors (code.reset_group k) dir s = onward (record s { groups = slice_set s.groups k unset }) ∷ []
-  successors (code.enter_loop f) dir s = choices f s.at (record s { loops = slice_set s.loops f.loop_id (0, s.offset) })
+  successors (code.enter_loop f) dir s = choices f s.at (entered input dir f s)
   successors (code.loop_again begin) dir s = elim (fields_of (slice_get program.instructions begin)) [
     | None ↦ []
     | Some f ↦ if is_idle f s then [] else choices f begin s

@@ -23,20 +23,20 @@ ghost use Rattle.regress_engine_runs.specs.UndoStack.{MovesOn};
 
 /// The run of a layout ends, from each place of a text, and its answer is the tree's most preferred outcome there.
 pub fn layouts_run_as_trees()
-    ensures { (target : Target) → (input : Input) → (reading : Reading) → Tells reading input → (target.program.units ≡ false → TellsBytes reading input) → IsMadeFor target input → (n : ℕ) → (t : Tree) → IsWellFormed n t → IsLayout target n t → RunsAsTree target.program input reading n t }
+    ensures { (target : Target) → (input : Input) → (reading : Reading) → Tells reading input → (target.program.units ≡ false → TellsBytes reading input) → IsMadeFor target input → offset reading (length reading.points) ≡ length input.units → (n : ℕ) → (t : Tree) → IsWellFormed n t → IsLayout target n t → RunsAsTree target.program input reading n t }
 {}
 
 /// A program that is a layout makes progress: each address that its run comes to, from each place of a text, inside and
 /// outside of lookarounds and atomic groups, is that of an instruction.
 pub fn layouts_have_progress()
-    ensures { (target : Target) → (input : Input) → (reading : Reading) → Tells reading input → (target.program.units ≡ false → TellsBytes reading input) → IsMadeFor target input → (n : ℕ) → (t : Tree) → IsWellFormed n t → IsLayout target n t → HasProgress target.program input reading }
+    ensures { (target : Target) → (input : Input) → (reading : Reading) → Tells reading input → (target.program.units ≡ false → TellsBytes reading input) → IsMadeFor target input → offset reading (length reading.points) ≡ length input.units → (n : ℕ) → (t : Tree) → IsWellFormed n t → IsLayout target n t → HasProgress target.program input reading }
 {}
 
 /// A program that is a layout reads at places alone: wherever its run comes to an instruction that reads characters, from each
 /// place of a text, inside and outside of lookarounds and atomic groups, the offset is that of a place, and so are the ends of a
 /// range that it refers to.
 pub fn layouts_read_at_places()
-    ensures { (target : Target) → (input : Input) → (reading : Reading) → Tells reading input → (target.program.units ≡ false → TellsBytes reading input) → IsMadeFor target input → (n : ℕ) → (t : Tree) → IsWellFormed n t → IsLayout target n t → ReadsAtPlaces target.program input reading }
+    ensures { (target : Target) → (input : Input) → (reading : Reading) → Tells reading input → (target.program.units ≡ false → TellsBytes reading input) → IsMadeFor target input → offset reading (length reading.points) ≡ length input.units → (n : ℕ) → (t : Tree) → IsWellFormed n t → IsLayout target n t → ReadsAtPlaces target.program input reading }
 {}
 
 /// A program that is a layout is closed: bytes stand in programs of bytes alone, its brackets, groups and loops are there where
@@ -61,7 +61,7 @@ pub fn searches_find_matches()
 
 /// So searches over the runs of a layout list the matches of its tree, told in offsets.
 pub fn layouts_list_matches()
-    ensures { (target : Target) → (input : Input) → (reading : Reading) → Tells reading input → (target.program.units ≡ false → TellsBytes reading input) → IsMadeFor target input → (n : ℕ) → (t : Tree) → IsWellFormed n t → IsLayout target n t → (p : ℕ) → p ≤ length reading.points → (items : List Item) → Lists target.program input (Some (offset reading p)) items ↔ (items ≡ map (told reading) (node_match_list (context_of reading input) n t p)) }
+    ensures { (target : Target) → (input : Input) → (reading : Reading) → Tells reading input → (target.program.units ≡ false → TellsBytes reading input) → IsMadeFor target input → offset reading (length reading.points) ≡ length input.units → (n : ℕ) → (t : Tree) → IsWellFormed n t → IsLayout target n t → (p : ℕ) → p ≤ length reading.points → (items : List Item) → Lists target.program input (Some (offset reading p)) items ↔ (items ≡ map (told reading) (node_match_list (context_of reading input) n t p)) }
 {}
 
 /// A search may skip places from which no run has an answer.

@@ -1,15 +1,30 @@
 -- Places that are read at.
-use Rattle.std.proofs.Common.{ℕ, true, Option, Some, None, option_map, ◌≡◌, refl, sym, ap, subst}
+use Rattle.std.proofs.Common.{ℕ, true, length, Option, Some, None, option_map, ◌≡◌, refl, sym, ap, ◌∙◌, subst}
 use Rattle.regress_meaning.specs.Meaning.{Direction}
 use Rattle.regress_meaning.specs.Inputs.{Tells}
+use Rattle.regress_meaning.specs.Offsets.{offset}
 use Rattle.regress_meaning.specs.Steps.{passed}
 use Rattle.regress_engine_input.specs.Views.{View, Kind, utf8, ascii, utf16, ucs2, AreOfKind, CanRead, LiesIn, behind, input_of, reading_of}
-use Rattle.regress_engine_input.proofs.KindLemmas.{tells, readable}
+use Rattle.regress_engine_input.proofs.KindLemmas.{tells, end, readable}
 use Rattle.regress_engine_matchers.proofs.MatcherLemmas.{Reads}
 use Rattle.regress_engine_runs.specs.Meets.{IsAtPlace}
 use Rattle.regress_engine_runs.specs.UndoStack.{MovesOn}
 use Rattle.regress_engine_runs.proofs.Literals.{place-on}
 use Rattle.regress_engine_runs.proofs.InputsMove.{utf8-moves-on, ascii-moves-on, utf16-moves-on, ucs2-moves-on}
+
+-- what an input shows are the units of its view
+pub units-are : (v : View) → (input_of v).units ≡ v.units
+units-are v = by_kind v.kind
+  where
+    by_kind : (k : Kind) → (input_of (record v { kind = k })).units ≡ v.units
+    by_kind utf8 = refl
+    by_kind ascii = refl
+    by_kind utf16 = refl
+    by_kind ucs2 = refl
+
+-- the last place has their number as its offset
+pub end-is : (v : View) → AreOfKind v.kind v.units → offset (reading_of v) (length (reading_of v).points) ≡ length (input_of v).units
+end-is v all = end v.kind v.units all ∙ ap length (sym (units-are v))
 
 -- what is read at a place ends at a place
 module _ (v : View) (all : AreOfKind v.kind v.units) where

@@ -21,7 +21,7 @@ use Rattle.regress_match.specs.Iterating.{coming_on}
 use Rattle.regress_front_bytes.proofs.TextLemmas.{offset-le}
 use Rattle.regress_match.proofs.TakenLemmas.{of_groups}
 use Rattle.regress_engine_input.specs.Views.{View, Kind, utf8, ascii, utf16, ucs2, are_bytes, input_of_kind, AreOfKind, input_of, reading_of, reading_of_kind}
-use Rattle.regress_engine_input.proofs.KindLemmas.{tells, tells_bytes, end}
+use Rattle.regress_engine_input.proofs.KindLemmas.{tells, tells_bytes}
 use Rattle.regress_engine_insn.specs.Instructions.{Program}
 use Rattle.regress_engine_code.specs.Standing.{program_of, target_of}
 use Rattle.regress_engine_insn.specs.Layout.{IsLayout}
@@ -35,19 +35,8 @@ use Rattle.regress_engine_search.specs.Answering.{IsOutcome}
 use Rattle.regress_engine_search.specs.Search.{IsMadeOf, IsItemAtPlaces, Search, last_place, place_at, last_place-le, items_from, places_behind, IsPosition}
 use Rattle.regress_engine_search.specs.SearchProps.{rises, same_items}
 use Rattle.regress_engine_search.proofs.ByteTexts.{place-cut}
-use Rattle.regress_engine_search.proofs.PlaceLemmas.{moves}
-use Rattle.regress_engine_search.proofs.PlaceLemmas.{next-place}
+use Rattle.regress_engine_search.proofs.PlaceLemmas.{end-is, moves, next-place, units-are}
 use Rattle.regress_engine_runs.proofs.FoundItems.{finds-from, goes_on-past}
-
--- an input has the units that it shows
-units-are : (kind : Kind) (table : Table) (unicode : Bool) (units : List ℕ) → (input_of_kind kind table unicode units).units ≡ units
-units-are utf8 table unicode units = refl
-units-are ascii table unicode units = refl
-units-are utf16 table unicode units = refl
-units-are ucs2 table unicode units = refl
-
-shown-units : (v : View) → (input_of v).units ≡ v.units
-shown-units v = units-are v.kind v.table v.unicode v.units
 
 -- at the offset of a place the last place is that place
 last_place-is : (v : View) (n p : ℕ) → n ≤ length (reading_of v).points → p ≤ n → last_place (reading_of v) (offset (reading_of v) p) n ≡ p
@@ -137,17 +126,13 @@ module _ (s : Search) where
       let past = goes_on-past program input (moves s.view) i inside.0.2 q (sym e) in
       behind-less s at q place there (omega (arith, from, past))
 
-  -- the last place has the number of units as its offset
-  ended : AreOfKind s.view.kind s.view.units → offset (reading_of s.view) (length (reading_of s.view).points) ≡ length input.units
-  ended all = end s.view.kind s.view.units all ∙ ap length (sym (shown-units s.view))
-
   -- a search that starts at an offset begins at a place, if at any
   pub start-place : AreOfKind s.view.kind s.view.units → (at p : ℕ) → Begins (reading_of s.view) at p → (o : Option ℕ) → o ≡ begins_at input at → IfSome o (IsPosition s)
   start-place all at p (inl (room, e)) o f =
       subst (λ x. IfSome x (IsPosition s)) (sym f)
       (cond_both (nat_le at (length input.units)) (Some at) None (λ x. IfSome x (IsPosition s)) (λ _. (p, room, sym e)) (λ _. tt))
   start-place all at p (inr (past, more)) o f =
-      let last = ended all in
+      let last = end-is s.view all in
       let none : begins_at input at ≡ None = ap (λ (b : Bool). if b then Some at else None) (lt-leb at (length input.units) (omega (arith, more, last))) in
       subst (λ x. IfSome x (IsPosition s)) (sym (f ∙ none)) (tt)
 
@@ -156,7 +141,7 @@ module _ (s : Search) where
     runs : RunsAsTree program input (reading_of s.view) n t
     runs =
         runs_as_tree (target_of s.compiled) input (reading_of s.view) (tells s.view.kind s.view.table s.view.unicode s.view.units all)
-        (λ none. tells_bytes s.view.kind s.view.table s.view.unicode s.view.units all (is_made.kind ∙ ap not none)) is_made.made n t formed layout
+        (λ none. tells_bytes s.view.kind s.view.table s.view.unicode s.view.units all (is_made.kind ∙ ap not none)) is_made.made (end-is s.view all) n t formed layout
 
     abbrev told_from : ℕ → List Item
     told_from p = map (told (reading_of s.view)) (node_match_list (context_of (reading_of s.view) input) n t p)
@@ -169,7 +154,7 @@ module _ (s : Search) where
     pub items-asked : (at p : ℕ) → Begins (reading_of s.view) at p → (o : Option ℕ) → o ≡ begins_at input at → coming_on (items_from s) o ≡ told_from p
     items-asked at p begins o e =
         same_items program s.view (begins_at input at) (coming_on (items_from s) o) (told_from p) (asked o e (start-place all at p begins o e))
-        ∣ (lists-from_offset program input (reading_of s.view) (tells s.view.kind s.view.table s.view.unicode s.view.units all) n t runs (ended all) at p begins (told_from p)).1 refl ∣₁
+        ∣ (lists-from_offset program input (reading_of s.view) (tells s.view.kind s.view.table s.view.unicode s.view.units all) n t runs (end-is s.view all) at p begins (told_from p)).1 refl ∣₁
       where
         asked : (o : Option ℕ) → o ≡ begins_at input at → IfSome o (IsPosition s) → ∥ Lists program input (begins_at input at) (coming_on (items_from s) o) ∥₁
         asked None e inside = ∣ subst (λ x. Lists program input x []) e (over) ∣₁
@@ -255,4 +240,4 @@ module _ (s : Search) (v : View) (shows : s.view ≡ v) (all : AreOfKind v.kind 
   -- an offset that is no greater than the length is where a search begins
   pub read-starts : (at n : ℕ) (b : Bool) (o : Option ℕ) → n ≡ length v.units → b ≡ nat_le at n → o ≡ then_some b at → o ≡ begins_at (input_of s.view) at
   read-starts at n b o e test is =
-      is ∙ some-where b at ∙ ap (λ (c : Bool). if c then Some at else None) (test ∙ ap (nat_le at) (e ∙ ap (λ (w : View). length w.units) (sym shows) ∙ ap length (sym (shown-units s.view))))
+      is ∙ some-where b at ∙ ap (λ (c : Bool). if c then Some at else None) (test ∙ ap (nat_le at) (e ∙ ap (λ (w : View). length w.units) (sym shows) ∙ ap length (sym (units-are s.view))))

@@ -36,7 +36,7 @@ use Rattle.regress_engine_search.specs.StateViews.{marks_of, item_with}
 use Rattle.regress_engine_search.specs.Answering.{IsAnswer, IsFound, IsOutcome, FindsOn}
 use Rattle.regress_engine_search.specs.Search.{IsItemAtPlaces, Listed, IsSearchable}
 use Rattle.regress_engine_search.specs.SearchProps.{IsItemAtPlaces-prop}
-use Rattle.regress_engine_search.proofs.PlaceLemmas.{can-read, moves, next-place}
+use Rattle.regress_engine_search.proofs.PlaceLemmas.{can-read, end-is, moves, next-place}
 
 -- a program that is not of units is for bytes
 pub bytes-units : (k u : Bool) → k ≡ not u → u ≡ false → k ≡ true
@@ -76,14 +76,14 @@ layout-searchable target v all kind made n t formed layout = record {
 
     ends : (o : ℕ) → IsAtPlace (reading_of v) o → IsComputed target.program (input_of v) Forward (first_state target.program o ∷ [])
     ends o (p, room, e) =
-        let run = runs_as_tree target (input_of v) (reading_of v) told bytes made n t formed layout p room in
+        let run = runs_as_tree target (input_of v) (reading_of v) told bytes made (end-is v all) n t formed layout p room in
         subst (λ x. IsComputed target.program (input_of v) Forward (first_state target.program x ∷ [])) (sym e)
         ((run.1.0, run.0), λ f less. runs-computed target.program (input_of v) run.1.1 f less)
 
     reads_at : (p : ℕ) → p ≤ length (reading_of v).points
         → ReadOn target.program (input_of v) (reading_of v) Forward (first_state target.program (offset (reading_of v) p) ∷ []) (outermost [])
     reads_at p room s i (meets_alone met) here reads =
-        let run = runs_safely target (input_of v) (reading_of v) told bytes made n t formed layout p room in
+        let run = runs_safely target (input_of v) (reading_of v) told bytes made (end-is v all) n t formed layout p room in
         reads-where_met target.program (input_of v) (reading_of v) met run.0 run.1 i here reads
 
     reads : (o : ℕ) → IsAtPlace (reading_of v) o → ReadOn target.program (input_of v) (reading_of v) Forward (first_state target.program o ∷ []) (outermost [])
@@ -96,7 +96,7 @@ layout-searchable target v all kind made n t formed layout = record {
         let matches : List Item = node_match_list context n t p in
         record {
           items = map (told_in (reading_of v)) matches;
-          lists = ∣ lists target.program (input_of v) (reading_of v) told n t (runs_as_tree target (input_of v) (reading_of v) told bytes made n t formed layout) p room ∣₁;
+          lists = ∣ lists target.program (input_of v) (reading_of v) told n t (runs_as_tree target (input_of v) (reading_of v) told bytes made (end-is v all) n t formed layout) p room ∣₁;
           inside = All-map (IsItemAtPlaces (reading_of v)) (told_in (reading_of v)) matches
               (All-weaker (λ i. IsItemInside (reading_of v).points i × (length i.groups ≡ n)) (λ i. IsItemAtPlaces (reading_of v) (told_in (reading_of v) i))
               (λ i h. item-at_places (reading_of v) i h.0) matches (matches_lie context n t p));

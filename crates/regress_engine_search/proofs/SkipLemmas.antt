@@ -34,7 +34,7 @@ use Rattle.regress_engine_runs.proofs.Computed.{computed-runs, one_run}
 use Rattle.regress_engine_runs.proofs.ItemLemmas.{skips}
 use Rattle.regress_engine_runs.proofs.WholeTree.{runs_as_tree}
 use Rattle.regress_engine_matchers.proofs.ViewLemmas.{view_reads}
-use Rattle.regress_engine_search.proofs.PlaceLemmas.{can-read}
+use Rattle.regress_engine_search.proofs.PlaceLemmas.{can-read, end-is}
 use Rattle.regress_engine_search.specs.Answering.{FindsOn}
 use Rattle.regress_engine_search.specs.Search.{IsSearchable}
 use Rattle.regress_engine_search.specs.SearchProps.{rises}
@@ -174,7 +174,7 @@ layout-skips target v all kind made n t formed layout start serves = record {
 
         some : node_outcomes (context_of (reading_of v) (input_of v)) t Forward s ≢ []
         some none =
-            let (r, run, first) = runs_as_tree target (input_of v) (reading_of v) told bytes made n t formed layout p room in
+            let (r, run, first) = runs_as_tree target (input_of v) (reading_of v) told bytes made (end-is v all) n t formed layout p room in
             let here = subst (λ x. Answers target.program (input_of v) x (Some w)) e answers in
             let nothing : ◌≡◌ {A = Option Whole} r None = subst (λ ss. IsFirst (reading_of v) ss r) none first in
             let same : ◌≡◌ {A = Option Whole} r (Some w) = (one_run target.program (input_of v) run.1 here.1).1 in

@@ -23,7 +23,7 @@ use Rattle.regress_engine_insn.specs.Instructions as code
 use Rattle.regress_engine_runs.specs.States.{Marks}
 use Rattle.regress_engine_runs.specs.Runs.{advance}
 use Rattle.regress_engine_runs.specs.Meets.{IsAtPlace}
-use Rattle.regress_engine_search.proofs.PlaceLemmas.{next-place}
+use Rattle.regress_engine_search.proofs.PlaceLemmas.{next-place, units-are}
 
 -- the first of bytes that stand to the right of an offset is there
 first-unit : (units bs : List ℕ) (b o q : ℕ) → (if same_text (b ∷ bs) (slice_range units o (o + length (b ∷ bs))) then Some (o + length (b ∷ bs)) else None) ≡ Some q → slice_get units o ≡ Some b
@@ -48,16 +48,6 @@ other-first input (b ∷ bs) o some other = by_found (literal input Forward (b �
     by_found : (x : Option ℕ) → literal input Forward (b ∷ bs) o ≡ x → None ≡ x
     by_found None e = refl
     by_found (Some q) e = absurd (other (first-unit input.units bs b o q e))
-
--- what an input shows are the units of its view
-pub units-are : (v : View) → (input_of v).units ≡ v.units
-units-are v = by_kind v.kind
-  where
-    by_kind : (k : Kind) → (input_of_kind k v.table v.unicode v.units).units ≡ v.units
-    by_kind utf8 = refl
-    by_kind ascii = refl
-    by_kind utf16 = refl
-    by_kind ucs2 = refl
 
 -- nor where a byte that was read is not their first
 pub not-there : (v : View) → are_bytes v.kind ≡ true → (bs : List ℕ) (o p : ℕ) → 0 < length bs → p ≡ o → (found : Option ℕ) → found ≡ in_bytes v.kind (unit_beside v.units Forward p)

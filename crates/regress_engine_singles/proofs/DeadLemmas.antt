@@ -6,10 +6,10 @@ use Rattle.std.proofs.lemmas.List.{get_or_past}
 use Rattle.regress_meaning.specs.Meaning.{Direction, Forward, Backward}
 use Rattle.regress_meaning.specs.Inputs.{Input}
 use Rattle.regress_front_nodes.specs.Trees.{atomic}
-use Rattle.regress_engine_insn.specs.Instructions.{LoopFields, Instruction, Program, Stands}
+use Rattle.regress_engine_insn.specs.Instructions.{LoopFields, Instruction, Program, Stands, surplus}
 use Rattle.regress_engine_insn.specs.Instructions as code
 use Rattle.regress_engine_runs.specs.States.{Marks, Whole, unset, begun, ended}
-use Rattle.regress_engine_runs.specs.Runs.{successors, moved_to, ordered, one_more, count_of, gap, advance, as_far, one_by_one, given_back, counted}
+use Rattle.regress_engine_runs.specs.Runs.{room, successors, moved_to, ordered, one_more, count_of, gap, advance, as_far, one_by_one, given_back, counted}
 use Rattle.regress_engine_runs.specs.UndoStack.{Work, whole, at_each}
 use Rattle.regress_engine_runs.proofs.GivingBack.{back_to-end}
 use Rattle.regress_engine_runs.proofs.Iterations.{after-all, after-stops, far-all, far-stops}
@@ -20,15 +20,16 @@ use Rattle.regress_engine_search.proofs.TaskLemmas.{leads-then, leads-later}
 use Rattle.regress_engine_singles.specs.Failing.{Fail, failed, steps, inner, IsDead, TakesNothing}
 use Rattle.regress_engine_singles.proofs.Failures.{fail-both, leads-without}
 
--- where a repetition begins no iteration has begun
-none-begun : (loops : List (ℕ × ℕ)) (id o : ℕ) → (get_or (slice_set loops id (0, o)) id (0, 0)).0 ≡ 0
-none-begun loops id o = by_room (cases_lt id (length loops))
+-- where a repetition begins no more iterations have begun than are taken as done
+few-begun : (loops : List (ℕ × ℕ)) (id n o : ℕ) → (get_or (slice_set loops id (n, o)) id (0, 0)).0 ≤ n
+few-begun loops id n o = by_room (cases_lt id (length loops))
   where
-    by_room : (id < length loops) ⊎ (length loops ≤ id) → (get_or (slice_set loops id (0, o)) id (0, 0)).0 ≡ 0
-    by_room (inl within) = ap (λ (x : ℕ × ℕ). x.0) (get_or-set_same loops id (0, o) (0, 0) within)
+    by_room : (id < length loops) ⊎ (length loops ≤ id) → (get_or (slice_set loops id (n, o)) id (0, 0)).0 ≤ n
+    by_room (inl within) = let same = ap (λ (x : ℕ × ℕ). x.0) (get_or-set_same loops id (n, o) (0, 0) within) in omega (arith, same)
     by_room (inr past) =
-        let size = length-set loops id (0, o) in
-        ap (λ (x : ℕ × ℕ). x.0) (get_or_past (slice_set loops id (0, o)) id (0, 0) (omega (arith, size, past)))
+        let size = length-set loops id (n, o) in
+        let none = ap (λ (x : ℕ × ℕ). x.0) (get_or_past (slice_set loops id (n, o)) id (0, 0) (omega (arith, size, past))) in
+        omega (arith, none)
 
 -- nothing lies between an offset and itself
 no-gap : (dir : Direction) (o : ℕ) → gap dir o o ≡ 0
@@ -79,15 +80,16 @@ module _ (program : Program) (input : Input) where
   pub enter-dead : (dir : Direction) (at o : ℕ) (f : LoopFields) → Stands program at (code.enter_loop f) → IsDead program input dir (at + 1) o → (f.least ≡ 0 → IsDead program input dir f.exit o)
       → IsDead program input dir at o
   enter-dead dir at o f here body out loops groups =
-      let begun : List (ℕ × ℕ) = slice_set loops f.loop_id (0, o) in
+      let done : ℕ = surplus f.least (room (length input.units) dir o) in
+      let begun : List (ℕ × ℕ) = slice_set loops f.loop_id (done, o) in
       let s : Whole = whole at o begun groups in
       steps here refl
       (fail-both program input
       (either f.greedy (nat_lt (count_of f.loop_id s) f.most) (nat_le f.least (count_of f.loop_id s)) (one_more f.loop_id at s) (whole f.exit o begun groups)
       (next-dead dir at o body (slice_set begun f.loop_id (suc (count_of f.loop_id s), o)) groups)
-      (λ e. let none = none-begun loops f.loop_id o in
-      let few = leb-true f.least (count_of f.loop_id s) e in
-      out (omega (arith, none, few)) begun groups))
+      (λ e. let few = few-begun loops f.loop_id done o in
+      let enough = leb-true f.least (count_of f.loop_id s) e in
+      out (omega (arith, few, enough)) begun groups))
       [] failed)
     where
       either : (greedy more enough : Bool) (s t : Whole) → Fail program input dir (s ∷ []) → (enough ≡ true → Fail program input dir (t ∷ [])) → Fail program input dir (ordered greedy more enough s t)

@@ -24,7 +24,8 @@ use Rattle.regress_engine_search.specs.Search.{Suits}
 use Rattle.regress_engine_analysis.specs.MayBegin.{leads, may_lead, behind, begins}
 use Rattle.regress_engine_singles.specs.Failing.{IsDead, TakesNothing}
 use Rattle.regress_engine_singles.specs.Taking.{is_taking}
-use Rattle.regress_engine_singles.proofs.ByteLemmas.{other-first, units-are}
+use Rattle.regress_engine_search.proofs.PlaceLemmas.{units-are}
+use Rattle.regress_engine_singles.proofs.ByteLemmas.{other-first}
 use Rattle.regress_engine_singles.specs.Leads.{lead_ahead}
 use Rattle.regress_engine_singles.proofs.LeadAheadLemmas.{lead-begins, lead-byte, lead-some}
 use Rattle.regress_engine_singles.proofs.DeadLemmas.{simple-dead, taken-dead, jump-dead, alt-dead, enter-dead, atomic-dead, begin-dead, end-dead, reset-dead, loop-dead, left-dead}

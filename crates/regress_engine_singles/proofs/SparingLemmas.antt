@@ -29,10 +29,10 @@ use Rattle.regress_engine_runs.specs.Meets.{IsAtPlace}
 use Rattle.regress_engine_runs.specs.Runs.{advance}
 use Rattle.regress_engine_runs.specs.States.{Marks}
 use Rattle.regress_engine_search.specs.Search.{Suits}
-use Rattle.regress_engine_search.proofs.PlaceLemmas.{can-read}
+use Rattle.regress_engine_search.proofs.PlaceLemmas.{can-read, units-are}
 use Rattle.regress_engine_singles.specs.Failing.{IsDead}
 use Rattle.regress_engine_singles.specs.Sparing.{IsDeadBefore, IsTurn}
-use Rattle.regress_engine_singles.proofs.ByteLemmas.{other-first, units-are}
+use Rattle.regress_engine_singles.proofs.ByteLemmas.{other-first}
 use Rattle.regress_engine_singles.proofs.FirstByteLemmas.{first_byte-dead, first_byte-may}
 use Rattle.regress_front_sets.proofs.FirstByteLemmas.{lead}
 use Rattle.regress_engine_insn.proofs.LiteralLemmas.{one-character}

@@ -207,12 +207,12 @@ pub again-on : (f : LoopFields) (begin : ℕ) (p : Spot) (h : Held) (going : Boo
 again-on f begin p h going q k busy program input on =
     subst (λ b. Leads program input 0 (task_of program input (if b then [] else choices f begin (state_at p h)) p h) (task program input going q k)) (sym busy) on
 
--- a repetition is entered
-pub enter-on : (f : LoopFields) (p : Spot) (h j : Held) (going : Bool) (q : Spot) (k : Held) → j ≡ loop_written f.loop_id (0, p.offset) h → (program : Program) (input : Input)
+-- a repetition is entered, of which so many iterations are taken as done
+pub enter-on : (done : ℕ) (f : LoopFields) (p : Spot) (h j : Held) (going : Bool) (q : Spot) (k : Held) → j ≡ loop_written f.loop_id (done, p.offset) h → (program : Program) (input : Input)
     → Leads program input 0 (task_of program input (choices f p.at (state_at p j)) p j) (task program input going q k)
-    → Leads program input 0 (task_of program input (choices f p.at (record (state_at p h) { loops = slice_set h.loops f.loop_id (0, p.offset) })) p h) (task program input going q k)
-enter-on f p h j going q k is program input on =
-    let s : Whole = record (state_at p h) { loops = slice_set h.loops f.loop_id (0, p.offset) } in
-    let on' : Leads program input 0 (task_of program input (choices f p.at s) p (loop_written f.loop_id (0, p.offset) h)) (task program input going q k) =
+    → Leads program input 0 (task_of program input (choices f p.at (record (state_at p h) { loops = slice_set h.loops f.loop_id (done, p.offset) })) p h) (task program input going q k)
+enter-on done f p h j going q k is program input on =
+    let s : Whole = record (state_at p h) { loops = slice_set h.loops f.loop_id (done, p.offset) } in
+    let on' : Leads program input 0 (task_of program input (choices f p.at s) p (loop_written f.loop_id (done, p.offset) h)) (task program input going q k) =
     subst (λ x. Leads program input 0 (task_of program input (choices f p.at (state_at p x)) p x) (task program input going q k)) is on in
-    leads-then program input 0 0 (leads-loop program input (choices f p.at s) p h f.loop_id (0, p.offset)) on'
+    leads-then program input 0 0 (leads-loop program input (choices f p.at s) p h f.loop_id (done, p.offset)) on'

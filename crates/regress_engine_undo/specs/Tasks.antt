@@ -42,9 +42,9 @@ two_ways target s = onward s ∷ record s { at = target } ∷ []
 abbrev pub with_marks : (group : ℕ) → Marks → Whole → List Whole
 with_marks group m s = onward (record s { groups = slice_set s.groups group m }) ∷ []
 
--- the states to which the beginning of a repetition leads
-abbrev pub ways_in : LoopFields → Whole → List Whole
-ways_in f s = choices f s.at (record s { loops = slice_set s.loops f.loop_id (0, s.offset) })
+-- the states to which the beginning of a repetition leads, of which so many iterations are taken as done
+abbrev pub ways_in : (done : ℕ) → LoopFields → Whole → List Whole
+ways_in done f s = choices f s.at (record s { loops = slice_set s.loops f.loop_id (done, s.offset) })
 
 -- the states to which the end of an iteration leads, of a repetition that begins at an address
 abbrev pub ways_again : (begin : ℕ) → LoopFields → Whole → List Whole

@@ -227,25 +227,32 @@ impl Memory {
         }
     }
 
-    /// Enters a repetition, and answers whether it continues; `dead` tells that no match can be reached from behind it. Asks that the
-    /// loop is there. It errs where memory is refused.
+    /// Enters a repetition, of which `done` iterations are taken as done, and answers whether it continues; `dead` tells that no match
+    /// can be reached from behind it. Asks that the loop is there. It errs where memory is refused.
     ///
     /// ```rust
-    /// let going = memory.enter(&repetition, false, &mut spot)?;
+    /// let going = memory.enter(&repetition, 0, false, &mut spot)?;
     /// ```
     #[inline]
     pub fn enter(
         &mut self,
         repetition: &LoopFields,
+        done: usize,
         dead: bool,
         spot: &mut Spot,
     ) -> Result<bool, AllocError>
         requires there { repetition.now.loop_id < length (held self.old).loops }
         requires room { spot.old.at + 1 < 2 ^ 64 }
-        ensures leads { IfOk result (λ going. RepeatsIf dead (fields repetition.now) ways_in spot.old (held self.old) going spot.new (held self.new)) }
+        ensures leads { IfOk result (λ going. RepeatsIf dead (fields repetition.now) (ways_in done) spot.old (held self.old) going spot.new (held self.new)) }
         ensures sound { OnOk result (StaysSound (held self.old) (held self.new)) }
     {
-        self.write_loop(repetition.loop_id as usize, LoopData::new(spot.offset))?;
+        self.write_loop(
+            repetition.loop_id as usize,
+            LoopData {
+                iters: done,
+                entry: spot.offset,
+            },
+        )?;
         let begin = spot.at;
         self.go_on(repetition, begin, dead, spot)
     }

@@ -1,16 +1,30 @@
-use Rattle.std.proofs.Common.{◌≡◌, ◌+◌, ◌-◌, suc, true, inl, inr, ap, ◌∙◌, subst, refl, arith}
-use Rattle.regress_engine_insn.specs.Instructions.{Stands}
+use Rattle.std.proofs.Common.{◌≡◌, ℕ, ◌+◌, ◌-◌, suc, Bool, true, length, inl, inr, sym, ap, ◌∙◌, subst, refl, arith}
+use Rattle.regress_meaning.specs.Inputs.{Input}
+use Rattle.regress_engine_insn.specs.Instructions.{LoopFields, Program, Stands, surplus}
+use Rattle.regress_engine_insn.specs.InsnViews.{fields}
 use Rattle.regress_engine_insn.specs.Instructions as code
 use Rattle.regress_engine_code.specs.Standing.{program_of}
 use Rattle.regress_engine_input.specs.Views.{direction_of, input_of}
 use Rattle.regress_engine_runs.specs.States.{begun, ended}
 use Rattle.regress_engine_search.specs.StateViews.{marks_of}
+use Rattle.regress_engine_search.specs.Tasks.{Leads}
+use Rattle.regress_engine_runs.specs.Runs.{room}
 use Rattle.regress_engine_search.proofs.InsnLemmas.{stands-as}
-use Rattle.regress_engine_undo.specs.Held.{held}
+use Rattle.regress_engine_search.proofs.PlaceLemmas.{units-are}
+use Rattle.regress_engine_undo.specs.Held.{Held, held}
+use Rattle.regress_engine_undo.specs.declared.undo.Spot.{Spot}
+use Rattle.regress_engine_undo.specs.Tasks.{state_at, task, task_of, ways_in}
 use Rattle.regress_engine_undo.proofs.BackLemmas.{frame-held}
 use Rattle.regress_engine_undo.proofs.DispatchLemmas.{step-on, jump-on, mark-on, submatch-on}
 use Rattle.regress_engine_undo.proofs.TurnLemmas.{first-place}
 use Rattle.regress_engine_attempt.proofs.attempt.Attempt.step.Goals as goal
+
+-- a repetition is entered, of which as many iterations are taken as done, said otherwise
+done-as : (program : Program) (input : Input) (m n : ℕ) → m ≡ n → (f : LoopFields) (p : Spot) (h : Held) (going : Bool) (q : Spot) (k : Held)
+    → Leads program input 0 (task_of program input (ways_in m f (state_at p h)) p h) (task program input going q k)
+    → Leads program input 0 (task_of program input (ways_in n f (state_at p h)) p h) (task program input going q k)
+done-as program input m n same f p h going q k on =
+    subst (λ x. Leads program input 0 (task_of program input (ways_in x f (state_at p h)) p h) (task program input going q k)) same on
 
 pub group_data-requires : goal.group_data-requires
 group_data-requires g c =
@@ -179,7 +193,10 @@ returns-in_ok-going-in-EnterLoop-clause-leads g c =
     let p = c.args.spot.now in
     let h = held c.args.memory.now in
     let here = stands-as program p.at _ _ c.in-EnterLoop.is c.instruction-insn.ensures.stands in
-    step-on program input _ p _ h _ _ here refl (c.in_ok-going-in-EnterLoop.ensures.leads program input c.is_dead-dead.ensures)
+    let v = g.Input.InputIndexer.view c.args.self.now.input in
+    let ahead = c.units_ahead-ahead.ensures ∙ ap (λ us. room (length us) (direction_of p.forward) p.offset) (sym (units-are v)) in
+    let done = c.surplus.ensures ∙ ap (surplus c.in-EnterLoop.repetition.min_iters) ahead in
+    step-on program input (code.enter_loop (fields c.in-EnterLoop.repetition)) p _ h _ _ here refl (done-as program input _ _ done (fields c.in-EnterLoop.repetition) p h _ _ _ (c.in_ok-going-in-EnterLoop.ensures.leads program input c.is_dead-dead.ensures))
 
 pub returns-in_ok-going-in-Loop1CharBody-clause-leads : goal.returns-in_ok-going-in-Loop1CharBody-clause-leads
 returns-in_ok-going-in-Loop1CharBody-clause-leads g c =

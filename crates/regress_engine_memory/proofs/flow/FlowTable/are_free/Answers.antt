@@ -6,7 +6,8 @@ use Rattle.regress_engine_search.specs.StateViews.{loop_of}
 use Rattle.regress_engine_memory.specs.Deciding.{Table, flow_of}
 use Rattle.regress_engine_memory.specs.Remembered.{keyed_of}
 use Rattle.regress_engine_memory.specs.TableViews.{table_of}
-use Rattle.regress_engine_memory.specs.Under.{HasMoved, room}
+use Rattle.regress_engine_runs.specs.Runs.{room}
+use Rattle.regress_engine_memory.specs.Under.{HasMoved}
 use Rattle.regress_engine_memory.proofs.ClassLemmas.{each-held}
 use Rattle.regress_engine_memory.proofs.flow.FlowTable.are_free.Goals as goal
 

@@ -5,7 +5,8 @@ use Rattle.regress_engine_search.specs.StateViews.{loop_of}
 use Rattle.regress_engine_memory.specs.Deciding.{flow_of}
 use Rattle.regress_engine_memory.specs.Remembered.{keyed_of}
 use Rattle.regress_engine_memory.specs.TableViews.{table_of}
-use Rattle.regress_engine_memory.specs.Under.{HasMoved, room}
+use Rattle.regress_engine_runs.specs.Runs.{room}
+use Rattle.regress_engine_memory.specs.Under.{HasMoved}
 use Rattle.regress_engine_memory.proofs.flow.FlowTable.are_free.Given as goal
 
 -- the loops so far are free
