@@ -48,6 +48,14 @@ returns-clause-plane c =
     subst (λ (x : FlowTable). HaveClasses (table_of x) c.args.spot.now.at p.classes.items (map loop_of c.args.loops.now)) (sym c.make_head.ensures.table) here in
     let fresh : AreFresh (flow_of (table_of c.args.self.now.table)) c.args.spot.now.offset p.fresh.items (map loop_of c.args.loops.now) =
     subst (λ (ids : List ℕ). AreFresh (flow_of (table_of c.args.self.now.table)) c.args.spot.now.offset ids (map loop_of c.args.loops.now)) c.deref.ensures.value
-    (sym c.are_fresh.ensures ∙ c.if-not-are_fresh.false) in
-    (p, there, (refl, refl, has, refl,
-    subst (λ (x : FlowTable). AreFresh (flow_of (table_of x)) c.args.spot.now.offset p.fresh.items (map loop_of c.args.loops.now)) (sym c.make_head.ensures.table) fresh))
+    (sym c.are_fresh.ensures ∙ c.if-not-are_fresh.false) in (
+      p,
+      there,
+      (
+        refl,
+        refl,
+        has,
+        refl,
+        subst (λ (x : FlowTable). AreFresh (flow_of (table_of x)) c.args.spot.now.offset p.fresh.items (map loop_of c.args.loops.now)) (sym c.make_head.ensures.table) fresh,
+      ),
+    )

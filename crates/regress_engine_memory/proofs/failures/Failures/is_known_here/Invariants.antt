@@ -3,4 +3,4 @@ use Rattle.regress_engine_memory.proofs.failures.Failures.is_known_here.Given as
 
 -- nothing has to be kept
 abbrev pub invariant-loop : goal.invariant-loop
-invariant-loop l = record { }
+invariant-loop l = record {}

@@ -31,8 +31,7 @@ returns-then-are_fresh c e = elim c.if-plane-further.branch [
           subst (λ (classes : List ℕ). HaveClasses (table_of c.args.self.now.table) c.args.spot.now.at classes loops) c.deref-then-are_fresh.ensures.value (c.have_classes.ensures e) in
           let fresh : AreFresh (flow_of (table_of c.args.self.now.table)) c.args.spot.now.offset p.fresh.items loops =
           subst (λ (ids : List ℕ). AreFresh (flow_of (table_of c.args.self.now.table)) c.args.spot.now.offset ids loops) w.deref.ensures.value
-          (sym w.are_fresh.ensures ∙ sym w.value-is ∙ c.if-are_fresh.true) in
-          (
+          (sym w.are_fresh.ensures ∙ sym w.value-is ∙ c.if-are_fresh.true) in (
             y.if-plane-spot.true,
             same-bool p.forward c.args.spot.now.forward (sym y.value-is ∙ x.if-plane-spot-2.true),
             has,
