@@ -23,7 +23,7 @@ const MOST_TRIED: usize = 1024;
 const PLANE_ROOM: usize = 4;
 
 /// The planes are sorted into so many buckets.
-const BUCKETS: usize = 1 << 16;
+const BUCKETS: usize = 1 << 18;
 
 /// An address, read in a direction, with the classes of the loops that are live there, and the offsets at which it fails.
 #[derive(Debug, Drop)]
@@ -139,7 +139,10 @@ impl Failures {
                 return None;
             }
             let plane = &self.planes[k];
-            if plane.fresh.as_slice().len() == fresh && self.is_plane(plane, spot, further, loops) {
+            if plane.at == spot.at
+                && plane.fresh.as_slice().len() == fresh
+                && self.is_plane(plane, spot, further, loops)
+            {
                 return Some(k);
             }
             next = plane.next;
@@ -173,6 +176,9 @@ impl Failures {
         ensures { result ≡ true → (program : Program) → (input : Input) → AreKnown program input self.now
             → FailsHere program input (keyed_of (table_of self.now.table)) spot.now (map loop_of loops.now) }
     {
+        if self.table.count_fresh(spot, loops) == 0 {
+            return self.is_known(spot, loops);
+        }
         let bucket = self.bucket(spot, false, loops);
         let mut next = self.head(bucket);
         for _ in 0..self.planes.len().min(MOST_TRIED) {
@@ -183,7 +189,10 @@ impl Failures {
                 return false;
             }
             let plane = &self.planes[k];
-            if plane.offsets.contains(spot.offset) && self.is_plane(plane, spot, false, loops) {
+            if plane.at == spot.at
+                && plane.offsets.contains(spot.offset)
+                && self.is_plane(plane, spot, false, loops)
+            {
                 return true;
             }
             next = plane.next;
