@@ -111,6 +111,7 @@ impl FlowTable {
 
     /// Whether a loop is fresh at an offset: its iteration that is under way has begun there and is past the least number, so that it may
     /// not end there.
+    #[inline]
     fn is_fresh(&self, id: usize, counts: LoopData<usize>, offset: usize) -> bool
         ensures { result ≡ is_fresh (flow_of (table_of self.now)) id offset (loop_of counts) }
     {
@@ -126,6 +127,7 @@ impl FlowTable {
     }
 
     /// How many of the loops that are live at a spot are fresh there.
+    #[inline]
     pub(crate) fn count_fresh(&self, spot: &Spot, loops: &[LoopData<usize>]) -> usize {
         let mut count = 0_usize;
         for id in self.live(spot.at) {
