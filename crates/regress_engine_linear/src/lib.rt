@@ -1,0 +1,6 @@
+//! Programs of which a search takes time that grows as program and text do.
+#![tactic(auto)]
+
+mod laws;
+
+pub use laws::running_states_lead_on;
