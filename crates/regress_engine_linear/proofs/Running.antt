@@ -24,6 +24,10 @@ fields-stand : (x : Option Instruction) (f : LoopFields) → fields_of x ≡ Som
 fields-stand (Some (code.enter_loop g)) f e = let same : g ≡ f = cc in ap (λ h. Some (code.enter_loop h)) same
 fields-stand _ f e = absurd (cc e)
 
+-- one repetition begins at an address
+pub same-loop : (program : Program) (begin : ℕ) (g f : LoopFields) → Stands program begin (code.enter_loop g) → Stands program begin (code.enter_loop f) → g ≡ f
+same-loop program begin g f one other = let e : Some (code.enter_loop g) ≡ Some (code.enter_loop f) = sym one ∙ other in cc
+
 -- further on than what is further on
 further-on : (last : ℕ) (dir : Direction) (a b c : ℕ) → IsFurther last dir a b → IsFurther last dir b c → IsFurther last dir a c
 further-on last Forward a b c (past, low) (past', low') = (omega arith, low)
@@ -51,7 +55,7 @@ module _ (r : Ranking) (last : ℕ) (dir : Direction) where
       by_place (inr past) (inr further) = inr (further-on last dir x.1 o q past further)
 
   -- where an iteration ends it has taken something
-  running-ends : (at begin o : ℕ) (f : LoopFields) (x : ℕ × ℕ) (flow : Flow) → IsCycle flow r at begin f → IsRunning r last dir at o f.loop_id x → IsFurther last dir x.1 o
+  pub running-ends : (at begin o : ℕ) (f : LoopFields) (x : ℕ × ℕ) (flow : Flow) → IsCycle flow r at begin f → IsRunning r last dir at o f.loop_id x → IsFurther last dir x.1 o
   running-ends at begin o f x flow cycle running = by_place running.place cycle.more.rank
     where
       by_place : ((x.1 ≡ o) × (r.rank at ≤ r.top f.loop_id)) ⊎ IsFurther last dir x.1 o → (1 ≤ 0) ⊎ (r.rank (suc begin) < r.rank at) → IsFurther last dir x.1 o
@@ -195,10 +199,6 @@ module _ (flow : Flow) (r : Ranking) (v : View) (all : AreOfKind v.kind v.units)
           let few = mine.few in
           omega (arith, less, few)
 
-  -- one repetition begins at an address
-  same-loop : (begin : ℕ) (g f : LoopFields) → Stands program begin (code.enter_loop g) → Stands program begin (code.enter_loop f) → g ≡ f
-  same-loop begin g f one other = let e : Some (code.enter_loop g) ≡ Some (code.enter_loop f) = sym one ∙ other in cc
-
   -- an iteration ends
   ends-on : (s : Whole) (begin : ℕ) (f : LoopFields) → Live s → Stands program s.at (code.loop_again begin) → Stands program begin (code.enter_loop f)
       → Live (one_more f.loop_id begin s) × Live (record s { at = f.exit })
@@ -206,8 +206,8 @@ module _ (flow : Flow) (r : Ranking) (v : View) (all : AreOfKind v.kind v.units)
     where
       by_flow : Flows flow program s.at (code.loop_again begin) → Ranks flow r program s.at (code.loop_again begin) → Live (one_more f.loop_id begin s) × Live (record s { at = f.exit })
       by_flow (g, stands, told, live, writes, hands) (h, stands', cycle) =
-          let in_flow : g ≡ f = same-loop begin g f stands there in
-          let in_ranks : h ≡ f = same-loop begin h f stands' there in
+          let in_flow : g ≡ f = same-loop program begin g f stands there in
+          let in_ranks : h ≡ f = same-loop program begin h f stands' there in
           goes-on s begin f running (suits.closed begin (code.enter_loop f) there).0 (subst (λ (x : LoopFields). flow.live s.at x.loop_id ≡ true) in_flow live)
           (subst (λ (x : LoopFields). Writes flow x.loop_id s.at (suc begin)) in_flow writes) (subst (λ (x : LoopFields). Hands flow s.at x.exit) in_flow hands)
           (subst (IsCycle flow r s.at begin) in_ranks cycle)
