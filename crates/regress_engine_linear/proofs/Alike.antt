@@ -100,7 +100,7 @@ module _ (flow : Flow) (r : Ranking) (last : ℕ) (program : Program) (input : I
       out = let least = cycle.least in let begun = running.begun in let enough : f.least ≤ x.0 = omega (arith, least, begun) in grind (arith, nat_tests)
 
   -- what a plain instruction leads to stands alike
-  shape-on : (i : Instruction) (at o : ℕ) (ls ms : List (ℕ × ℕ)) (gs hs : List Marks) → Stands program at i → is_plain i ≡ true
+  pub shape-on : (i : Instruction) (at o : ℕ) (ls ms : List (ℕ × ℕ)) (gs hs : List Marks) → Stands program at i → is_plain i ≡ true
       → Running (whole at o ls gs) → Running (whole at o ms hs) → (fits : (f : LoopFields) → i ≡ code.enter_loop f → f.loop_id < program.loops)
       → StandAlike (successors program input i dir (whole at o ls gs)) (successors program input i dir (whole at o ms hs))
   shape-on code.goal at o ls ms gs hs here plain first second fits = absurd (cc plain)

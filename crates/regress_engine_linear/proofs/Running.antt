@@ -74,7 +74,7 @@ module _ (flow : Flow) (r : Ranking) (program : Program) (last : ℕ) (dir : Dir
   Running s = AreRunning flow r program last dir s
 
   -- with the data of all loops as they are
-  running-handed : (s : Whole) (taken to q : ℕ) (groups : List Marks) → Running s → Hands flow s.at to → Lowers r taken s.at to → Takes last dir taken s.offset q
+  pub running-handed : (s : Whole) (taken to q : ℕ) (groups : List Marks) → Running s → Hands flow s.at to → Lowers r taken s.at to → Takes last dir taken s.offset q
       → Running (record { at = to; offset = q; loops = s.loops; groups = groups })
   running-handed s taken to q groups running hands lowers takes = record {
     calm = hands.calm;

@@ -1,5 +1,5 @@
 -- Programs of which no run comes back to an address without taking something, so that it visits each address and offset once.
-use Rattle.std.specs.Prelude.{◌≡◌, ℕ, suc, ◌+◌, ◌<◌, ◌≤◌, ◌⊎◌, Bool, true, List, length, get_or}
+use Rattle.std.specs.Prelude.{◌≡◌, ℕ, suc, ◌+◌, ◌<◌, ◌≤◌, ◌⊎◌, Bool, true, List, [], ◌∷◌, length, get_or}
 use Rattle.regress_meaning.specs.Meaning.{Direction, Forward}
 use Rattle.regress_front_nodes.specs.TreeMeaning.{submatch_direction}
 use Rattle.regress_engine_insn.specs.Instructions.{LoopFields, Instruction, Program, Stands}
@@ -65,3 +65,17 @@ pub record AreRunning (flow : Flow) (r : Ranking) (program : Program) (last : �
   pub way : r.forward s.at ≡ true → dir ≡ Forward
   pub size : length s.loops ≡ program.loops
   pub loops : (id : ℕ) → flow.live s.at id ≡ true → IsRunning r last dir s.at s.offset id (get_or s.loops id (0, 0))
+
+-- Two states stand at one address and offset, and the loops that are live there are under way in both.
+pub record AreBeside (flow : Flow) (r : Ranking) (program : Program) (last : ℕ) (dir : Direction) (s t : Whole) : Type 0 where
+  pub at : s.at ≡ t.at
+  pub offset : s.offset ≡ t.offset
+  pub first : AreRunning flow r program last dir s
+  pub second : AreRunning flow r program last dir t
+
+-- as many states do one by one
+abbrev pub AllBeside : Flow → Ranking → Program → (last : ℕ) → Direction → List Whole → List Whole → Type 0
+AllBeside flow r program last dir [] [] = Unit {0}
+AllBeside flow r program last dir (s ∷ ss) [] = ⊥
+AllBeside flow r program last dir [] (t ∷ ts) = ⊥
+AllBeside flow r program last dir (s ∷ ss) (t ∷ ts) = AreBeside flow r program last dir s t × AllBeside flow r program last dir ss ts

@@ -1,19 +1,29 @@
 //! Laws of programs that are ranked, each the contract of a function with an empty body.
-ghost use Rattle.std.specs.Prelude.{◌≡◌, true, length};
+ghost use Rattle.std.specs.Prelude.{◌≡◌, ℕ, true, List, Option, length};
 ghost use Rattle.std.specs.List.{AllByRecursion};
 ghost use Rattle.regress_meaning.specs.Meaning.{Direction};
 ghost use Rattle.regress_engine_input.specs.Views.{AreOfKind, View, input_of, reading_of};
 ghost use Rattle.regress_engine_insn.specs.Instructions.{Instruction, Program, Stands};
-ghost use Rattle.regress_engine_runs.specs.Meets.{reads_character, ReadsPlaces};
-ghost use Rattle.regress_engine_runs.specs.Runs.{is_plain, successors};
+ghost use Rattle.regress_engine_runs.specs.Meets.{Meets, reads_character, ReadsPlaces};
+ghost use Rattle.regress_engine_runs.specs.Runs.{Run, is_plain, successors};
 ghost use Rattle.regress_engine_runs.specs.States.{Whole};
 ghost use Rattle.regress_engine_search.specs.Search.{Suits};
+ghost use Rattle.regress_engine_memory.specs.Agreeing.{EndAlike};
 ghost use Rattle.regress_engine_memory.specs.Flow.{Flow, IsFlow};
-ghost use Rattle.regress_engine_linear.specs.Ranks.{AreRanked, AreRunning, Ranking};
+ghost use Rattle.regress_engine_linear.specs.Ranks.{AllBeside, AreRanked, AreRunning, AreUnbounded, Ranking};
 
 /// Loops that are under way in a state are so in each state that its instruction leads to.
 pub fn running_states_lead_on()
     ensures { (flow : Flow) → (r : Ranking) → (v : View) → AreOfKind v.kind v.units → (program : Program) → Suits program v → IsFlow flow program → AreRanked flow r program
         → (dir : Direction) → (s : Whole) → (i : Instruction) → AreRunning flow r program (length v.units) dir s → Stands program s.at i → is_plain i ≡ true
         → (reads_character i ≡ true → ReadsPlaces (reading_of v) i s) → AllByRecursion (AreRunning flow r program (length v.units) dir) (successors program (input_of v) i dir s) }
+{}
+
+/// States at one address and offset in which all live loops are under way run alike: in as many steps, and to answers at one offset, or both
+/// to none.
+pub fn running_states_run_alike()
+    ensures { (flow : Flow) → (r : Ranking) → (v : View) → AreOfKind v.kind v.units → (program : Program) → Suits program v → IsFlow flow program → AreRanked flow r program
+        → AreUnbounded (length v.units) program → (dir : Direction) → (ts : List Whole) → (n : ℕ) → (a : Option Whole) → Run program (input_of v) dir ts n a
+        → ((u : Whole) → (i : Instruction) → Meets program (input_of v) dir ts u → Stands program u.at i → reads_character i ≡ true → ReadsPlaces (reading_of v) i u)
+        → (ss : List Whole) → AllBeside flow r program (length v.units) dir ss ts → (q : Option Whole) × Run program (input_of v) dir ss n q × EndAlike q a }
 {}

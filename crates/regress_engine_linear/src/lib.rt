@@ -3,4 +3,4 @@
 
 mod laws;
 
-pub use laws::running_states_lead_on;
+pub use laws::{running_states_lead_on, running_states_run_alike};
