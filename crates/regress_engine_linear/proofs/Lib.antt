@@ -1,3 +1,5 @@
 pub mod Running
 pub mod Alike
 pub mod RunsAlike
+pub mod Beyond
+pub mod FromStart

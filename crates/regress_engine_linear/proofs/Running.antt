@@ -7,20 +7,23 @@ use Rattle.regress_meaning.specs.Meaning.{Direction, Forward, Backward}
 use Rattle.regress_engine_input.specs.Views.{View, AreOfKind, input_of, reading_of}
 use Rattle.regress_engine_insn.specs.Instructions.{LoopFields, Instruction, Program, Stands, surplus}
 use Rattle.regress_engine_insn.specs.Instructions as code
-use Rattle.regress_engine_runs.specs.States.{Marks, Whole}
+use Rattle.regress_engine_runs.specs.States.{Marks, Whole, onward}
+use Rattle.regress_engine_runs.specs.UndoStack.{whole}
+use Rattle.regress_front_nodes.specs.Trees.{Submatch}
+use Rattle.regress_front_nodes.specs.TreeMeaning.{submatch_direction}
 use Rattle.regress_engine_runs.specs.Runs.{entered, fields_of, is_plain, one_more, room, successors}
 use Rattle.regress_engine_runs.specs.Meets.{referred, reads_character, ReadsPlaces}
 use Rattle.regress_engine_search.specs.Search.{Suits}
 use Rattle.regress_engine_memory.specs.Flow.{Flow, Flows, Hands, Writes, IsFlow}
 use Rattle.regress_engine_memory.specs.Needs.{taken_by}
-use Rattle.regress_engine_memory.specs.Under.{IsFurther}
+use Rattle.regress_engine_memory.specs.Under.{IsFurther, IsOnward}
 use Rattle.regress_engine_memory.proofs.EachState.{each-choices, each-again}
 use Rattle.regress_engine_memory.proofs.Onward.{Takes, room-less, takes-none, flows-unreferring}
 use Rattle.regress_engine_memory.proofs.Taking.{each-moved, each-single}
 use Rattle.regress_engine_linear.specs.Ranks.{Ranking, Lowers, IsCycle, Ranks, AreRanked, IsRunning, AreRunning}
 
 -- where a repetition is told of an instruction it stands
-fields-stand : (x : Option Instruction) (f : LoopFields) → fields_of x ≡ Some f → x ≡ Some (code.enter_loop f)
+pub fields-stand : (x : Option Instruction) (f : LoopFields) → fields_of x ≡ Some f → x ≡ Some (code.enter_loop f)
 fields-stand (Some (code.enter_loop g)) f e = let same : g ≡ f = cc in ap (λ h. Some (code.enter_loop h)) same
 fields-stand _ f e = absurd (cc e)
 
@@ -245,3 +248,27 @@ module _ (flow : Flow) (r : Ranking) (v : View) (all : AreOfKind v.kind v.units)
   running-step s i running here plain reads =
       each-moved v all program suits dir Live s i (flows-unreferring flow program s.at i (closed s.at i running.calm here))
       (λ q takes. running-handed flow r program last dir s (taken_by i) (suc s.at) q s.groups running (closed s.at i running.calm here) (ranked s.at i running.calm here) takes)
+
+  -- ---- lookarounds and atomic groups
+
+  module _ (kind : Submatch) (low high continuation : ℕ) (s : Whole) (running : Live s) (here : Stands program s.at (code.submatch kind low high continuation)) where
+    -- inside nothing is live
+    pub running-inside : AreRunning flow r program last (submatch_direction kind dir) (onward s)
+    running-inside =
+        let anew = (closed s.at (code.submatch kind low high continuation) running.calm here).0 in
+        record {
+          calm = anew.calm;
+          way = λ forward. (ranked s.at (code.submatch kind low high continuation) running.calm here).1 dir running.way forward;
+          size = running.size;
+          loops = λ id l. absurd (anew.silent id l);
+        }
+
+    -- behind them the loops outside are as they were
+    pub running-behind : (o : ℕ) (groups : List Marks) → IsOnward last dir s.offset o → Live (whole continuation o s.loops groups)
+    running-behind o groups on =
+        running-handed flow r program last dir s 0 continuation o groups running (closed s.at (code.submatch kind low high continuation) running.calm here).1
+        (ranked s.at (code.submatch kind low high continuation) running.calm here).0 (on, less on)
+      where
+        less : IsOnward last dir s.offset o → room last dir o + 0 ≤ room last dir s.offset
+        less (inl same) = let e = ap (room last dir) same in omega (arith, e)
+        less (inr further) = let fewer = room-less last dir s.offset o further in omega (arith, fewer)

@@ -19,7 +19,7 @@ use Rattle.regress_engine_memory.specs.Under.{IsOnward}
 use Rattle.regress_engine_memory.proofs.Onward.{Takes, takes-none, room-less, ends-onward, flows-unreferring}
 use Rattle.regress_engine_memory.proofs.Steady.{steady}
 use Rattle.regress_engine_linear.specs.Ranks.{Ranking, AreRanked, AreRunning, AreUnbounded, AreBeside, AllBeside}
-use Rattle.regress_engine_linear.proofs.Running.{running-handed, running-step}
+use Rattle.regress_engine_linear.proofs.Running.{running-behind, running-inside, running-step}
 use Rattle.regress_engine_linear.proofs.Alike.{StandAlike, shape-on}
 
 module _ (flow : Flow) (r : Ranking) (v : View) (all : AreOfKind v.kind v.units) (program : Program) (suits : Suits program v) (closed : IsFlow flow program) (ranked : AreRanked flow r program)
@@ -82,28 +82,6 @@ module _ (flow : Flow) (r : Ranking) (v : View) (all : AreOfKind v.kind v.units)
 
   -- ---- lookarounds and atomic groups
 
-  module _ (dir : Direction) (kind : Submatch) (low high continuation : ℕ) (s : Whole) (running : Live dir s) (here : Stands program s.at (code.submatch kind low high continuation)) where
-    -- inside nothing is live
-    running-inside : Live (submatch_direction kind dir) (onward s)
-    running-inside =
-        let anew = (closed s.at (code.submatch kind low high continuation) running.calm here).0 in
-        record {
-          calm = anew.calm;
-          way = λ forward. (ranked s.at (code.submatch kind low high continuation) running.calm here).1 dir running.way forward;
-          size = running.size;
-          loops = λ id l. absurd (anew.silent id l);
-        }
-
-    -- behind them the loops outside are as they were
-    running-behind : (o : ℕ) (groups : List Marks) → IsOnward last dir s.offset o → Live dir (whole continuation o s.loops groups)
-    running-behind o groups on =
-        running-handed flow r program last dir s 0 continuation o groups running (closed s.at (code.submatch kind low high continuation) running.calm here).1
-        (ranked s.at (code.submatch kind low high continuation) running.calm here).0 (on, less on)
-      where
-        less : IsOnward last dir s.offset o → room last dir o + 0 ≤ room last dir s.offset
-        less (inl same) = let e = ap (room last dir) same in omega (arith, e)
-        less (inr further) = let fewer = room-less last dir s.offset o further in omega (arith, fewer)
-
   -- what follows them, by answers that end alike: the second one ends onward
   both-behind : (dir : Direction) (kind : Submatch) (low high continuation : ℕ) (s t : Whole) (p q : Option Whole) → EndAlike p q → s.offset ≡ t.offset
       → IfSome q (λ w. IsOnward last (submatch_direction kind dir) t.offset w.offset)
@@ -151,8 +129,8 @@ module _ (flow : Flow) (r : Ranking) (v : View) (all : AreOfKind v.kind v.units)
       let into : Both (submatch_direction kind dir) (onward s) (onward t) = record {
         at = ap suc both.0.at;
         offset = both.0.offset;
-        first = running-inside dir kind low high continuation s both.0.first there;
-        second = running-inside dir kind low high continuation t both.0.second here;
+        first = running-inside flow r v all program suits closed ranked dir kind low high continuation s both.0.first there;
+        second = running-inside flow r v all program suits closed ranked dir kind low high continuation t both.0.second here;
       } in
       let (p, found, alike) = beside-run inner (λ u j met. reads u j (inside here met)) (onward s ∷ []) (into, tt) in
       let alone : Agrees flow (onward t) (onward t) = record { calm = anew.calm; at = refl; offset = refl; size = refl; loops = λ id l. refl } in
@@ -161,8 +139,8 @@ module _ (flow : Flow) (r : Ranking) (v : View) (all : AreOfKind v.kind v.units)
       let beside : (o : ℕ) (gs hs : List Marks) → IsOnward last dir t.offset o → Both dir (whole continuation o s.loops gs) (whole continuation o t.loops hs) = λ o gs hs on. record {
         at = refl;
         offset = refl;
-        first = running-behind dir kind low high continuation s both.0.first there o gs (subst (λ e. IsOnward last dir e o) (sym both.0.offset) on);
-        second = running-behind dir kind low high continuation t both.0.second here o hs on;
+        first = running-behind flow r v all program suits closed ranked dir kind low high continuation s both.0.first there o gs (subst (λ e. IsOnward last dir e o) (sym both.0.offset) on);
+        second = running-behind flow r v all program suits closed ranked dir kind low high continuation t both.0.second here o hs on;
       } in
       let (q, run, same) = beside-run next (λ u j met. reads u j (behind here (m, inner) met)) (after_submatch kind low high continuation s p ++ ss)
       (both-append dir (after_submatch kind low high continuation s p) (after_submatch kind low high continuation t a) ss ts

@@ -79,3 +79,7 @@ AllBeside flow r program last dir [] [] = Unit {0}
 AllBeside flow r program last dir (s ∷ ss) [] = ⊥
 AllBeside flow r program last dir [] (t ∷ ts) = ⊥
 AllBeside flow r program last dir (s ∷ ss) (t ∷ ts) = AreBeside flow r program last dir s t × AllBeside flow r program last dir ss ts
+
+-- One state is beyond another: further on in the text, or there at an address of lower rank.
+abbrev pub IsBeyond : Ranking → (last : ℕ) → Direction → Whole → Whole → Type 0
+IsBeyond r last dir s u = IsFurther last dir s.offset u.offset ⊎ ((u.offset ≡ s.offset) × (r.rank u.at < r.rank s.at))

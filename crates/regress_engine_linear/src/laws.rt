@@ -10,7 +10,7 @@ ghost use Rattle.regress_engine_runs.specs.States.{Whole};
 ghost use Rattle.regress_engine_search.specs.Search.{Suits};
 ghost use Rattle.regress_engine_memory.specs.Agreeing.{EndAlike};
 ghost use Rattle.regress_engine_memory.specs.Flow.{Flow, IsFlow};
-ghost use Rattle.regress_engine_linear.specs.Ranks.{AllBeside, AreRanked, AreRunning, AreUnbounded, Ranking};
+ghost use Rattle.regress_engine_linear.specs.Ranks.{AllBeside, AreRanked, AreRunning, AreUnbounded, IsBeyond, Ranking};
 
 /// Loops that are under way in a state are so in each state that its instruction leads to.
 pub fn running_states_lead_on()
@@ -26,4 +26,12 @@ pub fn running_states_run_alike()
         → AreUnbounded (length v.units) program → (dir : Direction) → (ts : List Whole) → (n : ℕ) → (a : Option Whole) → Run program (input_of v) dir ts n a
         → ((u : Whole) → (i : Instruction) → Meets program (input_of v) dir ts u → Stands program u.at i → reads_character i ≡ true → ReadsPlaces (reading_of v) i u)
         → (ss : List Whole) → AllBeside flow r program (length v.units) dir ss ts → (q : Option Whole) × Run program (input_of v) dir ss n q × EndAlike q a }
+{}
+
+/// Each state that an instruction leads to is beyond: further on in the text, or at an address of lower rank. So no run comes back to
+/// where it was.
+pub fn runs_go_beyond()
+    ensures { (flow : Flow) → (r : Ranking) → (v : View) → AreOfKind v.kind v.units → (program : Program) → Suits program v → IsFlow flow program → AreRanked flow r program
+        → (dir : Direction) → (s : Whole) → (i : Instruction) → flow.calm s.at ≡ true → Stands program s.at i → is_plain i ≡ true
+        → (reads_character i ≡ true → ReadsPlaces (reading_of v) i s) → AllByRecursion (IsBeyond r (length v.units) dir s) (successors program (input_of v) i dir s) }
 {}

@@ -3,4 +3,4 @@
 
 mod laws;
 
-pub use laws::{running_states_lead_on, running_states_run_alike};
+pub use laws::{running_states_lead_on, running_states_run_alike, runs_go_beyond};
