@@ -226,8 +226,7 @@ module _ (flow : Flow) (r : Ranking) (v : View) (all : AreOfKind v.kind v.units)
       (running-handed flow r program last dir s 0 a s.offset s.groups running (closed s.at (code.jump a) running.calm here) (ranked s.at (code.jump a) running.calm here) (stays s), tt)
   running-step s (code.alt a) running here plain reads =
       let hands = closed s.at (code.alt a) running.calm here in
-      let lowers = ranked s.at (code.alt a) running.calm here in
-      (
+      let lowers = ranked s.at (code.alt a) running.calm here in (
         running-handed flow r program last dir s 0 (suc s.at) s.offset s.groups running hands.0 lowers.0 (stays s),
         (running-handed flow r program last dir s 0 a s.offset s.groups running hands.1 lowers.1 (stays s), tt),
       )
