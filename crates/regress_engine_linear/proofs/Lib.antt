@@ -3,3 +3,4 @@ pub mod Alike
 pub mod RunsAlike
 pub mod Beyond
 pub mod FromStart
+pub mod Ranking
