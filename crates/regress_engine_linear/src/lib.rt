@@ -2,6 +2,7 @@
 #![tactic(auto)]
 
 mod laws;
+mod making;
 mod ranks;
 
 pub use laws::{running_states_lead_on, running_states_run_alike, runs_go_beyond};
