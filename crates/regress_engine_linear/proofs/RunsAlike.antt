@@ -11,14 +11,14 @@ use Rattle.regress_engine_insn.specs.Instructions as code
 use Rattle.regress_engine_runs.specs.States.{Marks, Whole, unset, range_of, onward, mixed}
 use Rattle.regress_engine_runs.specs.Runs.{Run, ends, finds, goes, looks, after_submatch, is_plain, room, successors}
 use Rattle.regress_engine_runs.specs.Meets.{Meets, now, later, inside, behind, referred, reads_character, ReadsPlaces, AreAtPlaces, IsAtPlace}
-use Rattle.regress_engine_runs.specs.UndoStack.{whole}
+use Rattle.regress_engine_runs.specs.UndoStack.{Fails, whole}
 use Rattle.regress_engine_search.specs.Search.{Suits}
 use Rattle.regress_engine_memory.specs.Flow.{Flow, IsFlow}
 use Rattle.regress_engine_memory.specs.Agreeing.{Agrees, EndAlike}
 use Rattle.regress_engine_memory.specs.Under.{IsOnward}
 use Rattle.regress_engine_memory.proofs.Onward.{Takes, takes-none, room-less, ends-onward, flows-unreferring}
 use Rattle.regress_engine_memory.proofs.Steady.{steady}
-use Rattle.regress_engine_linear.specs.Ranks.{Ranking, AreRanked, AreRunning, AreUnbounded, AreBeside, AllBeside}
+use Rattle.regress_engine_linear.specs.Ranks.{Ranking, AreRanked, AreRunning, AreUnbounded, AreBeside, AllBeside, FailsAnyhow}
 use Rattle.regress_engine_linear.proofs.Running.{running-behind, running-inside, running-step}
 use Rattle.regress_engine_linear.proofs.Alike.{StandAlike, shape-on}
 
@@ -146,3 +146,15 @@ module _ (flow : Flow) (r : Ranking) (v : View) (all : AreOfKind v.kind v.units)
       (both-append dir (after_submatch kind low high continuation s p) (after_submatch kind low high continuation t a) ss ts
       (both-behind dir kind low high continuation s t p a alike both.0.offset within beside) both.1) in
       (q, looks there found run, same)
+
+  -- What fails once where its loops are under way fails whatever they are.
+  pub fails-anyhow : (dir : Direction) (at o : ℕ) (ms : List (ℕ × ℕ)) (hs : List Marks) → Live dir (whole at o ms hs) → Reads dir (whole at o ms hs ∷ [])
+      → Fails program (input_of v) dir (whole at o ms hs ∷ []) → FailsAnyhow flow r program (input_of v) last dir at o
+  fails-anyhow dir at o ms hs mine reads fails loops groups other =
+      let both : Both dir (whole at o loops groups) (whole at o ms hs) = record { at = refl; offset = refl; first = other; second = mine } in
+      let (q, run, same) = beside-run fails.1 reads (whole at o loops groups ∷ []) (both, tt) in
+      (fails.0, subst (λ (x : Option Whole). Run program (input_of v) dir (whole at o loops groups ∷ []) fails.0 x) (none q same) run)
+    where
+      none : (q : Option Whole) → EndAlike q None → q ≡ None
+      none None e = refl
+      none (Some w) e = absurd e

@@ -1,11 +1,13 @@
 -- Programs of which no run comes back to an address without taking something, so that it visits each address and offset once.
 use Rattle.std.specs.Prelude.{◌≡◌, ℕ, suc, ◌+◌, ◌<◌, ◌≤◌, ◌⊎◌, Bool, true, List, [], ◌∷◌, length, get_or}
 use Rattle.regress_meaning.specs.Meaning.{Direction, Forward}
+use Rattle.regress_meaning.specs.Inputs.{Input}
 use Rattle.regress_front_nodes.specs.TreeMeaning.{submatch_direction}
 use Rattle.regress_engine_insn.specs.Instructions.{LoopFields, Instruction, Program, Stands}
 use Rattle.regress_engine_insn.specs.Instructions as code
 use Rattle.regress_engine_runs.specs.Runs.{room}
-use Rattle.regress_engine_runs.specs.States.{Whole}
+use Rattle.regress_engine_runs.specs.States.{Marks, Whole}
+use Rattle.regress_engine_runs.specs.UndoStack.{Fails, whole}
 use Rattle.regress_engine_memory.specs.Flow.{Flow}
 use Rattle.regress_engine_memory.specs.Needs.{taken_by}
 use Rattle.regress_engine_memory.specs.Under.{IsFurther}
@@ -83,3 +85,8 @@ AllBeside flow r program last dir (s ∷ ss) (t ∷ ts) = AreBeside flow r progr
 -- One state is beyond another: further on in the text, or there at an address of lower rank.
 abbrev pub IsBeyond : Ranking → (last : ℕ) → Direction → Whole → Whole → Type 0
 IsBeyond r last dir s u = IsFurther last dir s.offset u.offset ⊎ ((u.offset ≡ s.offset) × (r.rank u.at < r.rank s.at))
+
+-- From an address and an offset no run has an answer, whatever the groups are, and whatever the loops that are under way there.
+abbrev pub FailsAnyhow : Flow → Ranking → Program → Input → (last : ℕ) → Direction → (at o : ℕ) → Type 0
+FailsAnyhow flow r program input last dir at o = (loops : List (ℕ × ℕ)) (groups : List Marks) → AreRunning flow r program last dir (whole at o loops groups)
+    → Fails program input dir (whole at o loops groups ∷ [])

@@ -1,16 +1,17 @@
 //! Laws of programs that are ranked, each the contract of a function with an empty body.
-ghost use Rattle.std.specs.Prelude.{◌≡◌, ℕ, true, List, Option, length};
+ghost use Rattle.std.specs.Prelude.{◌≡◌, ℕ, true, [], ◌∷◌, List, Option, length};
 ghost use Rattle.std.specs.List.{AllByRecursion};
 ghost use Rattle.regress_meaning.specs.Meaning.{Direction};
 ghost use Rattle.regress_engine_input.specs.Views.{AreOfKind, View, input_of, reading_of};
 ghost use Rattle.regress_engine_insn.specs.Instructions.{Instruction, Program, Stands};
 ghost use Rattle.regress_engine_runs.specs.Meets.{Meets, reads_character, ReadsPlaces};
 ghost use Rattle.regress_engine_runs.specs.Runs.{Run, is_plain, successors};
-ghost use Rattle.regress_engine_runs.specs.States.{Whole};
+ghost use Rattle.regress_engine_runs.specs.States.{Marks, Whole};
+ghost use Rattle.regress_engine_runs.specs.UndoStack.{Fails, whole};
 ghost use Rattle.regress_engine_search.specs.Search.{Suits};
 ghost use Rattle.regress_engine_memory.specs.Agreeing.{EndAlike};
 ghost use Rattle.regress_engine_memory.specs.Flow.{Flow, IsFlow};
-ghost use Rattle.regress_engine_linear.specs.Ranks.{AllBeside, AreRanked, AreRunning, AreUnbounded, IsBeyond, Ranking};
+ghost use Rattle.regress_engine_linear.specs.Ranks.{AllBeside, AreRanked, AreRunning, AreUnbounded, FailsAnyhow, IsBeyond, Ranking};
 
 /// Loops that are under way in a state are so in each state that its instruction leads to.
 pub fn running_states_lead_on()
@@ -34,4 +35,13 @@ pub fn runs_go_beyond()
     ensures { (flow : Flow) → (r : Ranking) → (v : View) → AreOfKind v.kind v.units → (program : Program) → Suits program v → IsFlow flow program → AreRanked flow r program
         → (dir : Direction) → (s : Whole) → (i : Instruction) → flow.calm s.at ≡ true → Stands program s.at i → is_plain i ≡ true
         → (reads_character i ≡ true → ReadsPlaces (reading_of v) i s) → AllByRecursion (IsBeyond r (length v.units) dir s) (successors program (input_of v) i dir s) }
+{}
+
+/// What has no answer once has none whatever the groups are, and whatever the loops that are under way.
+pub fn running_failures_forget()
+    ensures { (flow : Flow) → (r : Ranking) → (v : View) → AreOfKind v.kind v.units → (program : Program) → Suits program v → IsFlow flow program → AreRanked flow r program
+        → AreUnbounded (length v.units) program → (dir : Direction) → (at o : ℕ) → (loops : List (ℕ × ℕ)) → (groups : List Marks)
+        → AreRunning flow r program (length v.units) dir (whole at o loops groups)
+        → ((u : Whole) → (i : Instruction) → Meets program (input_of v) dir (whole at o loops groups ∷ []) u → Stands program u.at i → reads_character i ≡ true → ReadsPlaces (reading_of v) i u)
+        → Fails program (input_of v) dir (whole at o loops groups ∷ []) → FailsAnyhow flow r program (input_of v) (length v.units) dir at o }
 {}

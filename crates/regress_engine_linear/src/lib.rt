@@ -5,5 +5,7 @@ mod laws;
 mod making;
 mod ranks;
 
-pub use laws::{running_states_lead_on, running_states_run_alike, runs_go_beyond};
+pub use laws::{
+    running_failures_forget, running_states_lead_on, running_states_run_alike, runs_go_beyond,
+};
 pub use ranks::RankTable;
