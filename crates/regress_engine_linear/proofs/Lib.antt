@@ -4,3 +4,4 @@ pub mod RunsAlike
 pub mod Beyond
 pub mod FromStart
 pub mod Ranking
+pub mod Answering

@@ -6,6 +6,7 @@ mod making;
 mod ranks;
 
 pub use laws::{
-    running_failures_forget, running_states_lead_on, running_states_run_alike, runs_go_beyond,
+    answers_are_told_by_those_ahead, running_failures_forget, running_states_lead_on,
+    running_states_run_alike, runs_go_beyond,
 };
 pub use ranks::RankTable;

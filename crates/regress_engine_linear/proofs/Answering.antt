@@ -1,0 +1,68 @@
+-- Whether a run has an answer is told by what is told of the states that it leads to.
+use Rattle.std.specs.Prelude.{is_some}
+use Rattle.std.specs.List.{AllByRecursion}
+use Rattle.std.proofs.Common.{◌≡◌, ℕ, suc, ◌+◌, ◌||◌, Bool, true, false, List, [], ◌∷◌, ◌++◌, length, Option, None, Some, refl, sym, ap, ◌∙◌, subst, append-nil}
+use Rattle.regress_meaning.specs.Meaning.{Direction}
+use Rattle.regress_meaning.specs.Inputs.{Input}
+use Rattle.regress_engine_input.specs.Views.{View, AreOfKind, input_of, reading_of}
+use Rattle.regress_engine_insn.specs.Instructions.{Instruction, Program, Stands}
+use Rattle.regress_engine_runs.specs.States.{Marks, Whole}
+use Rattle.regress_engine_runs.specs.Runs.{Run, ends, goes, is_plain, successors}
+use Rattle.regress_engine_runs.specs.Meets.{reads_character, ReadsPlaces}
+use Rattle.regress_engine_runs.specs.UndoStack.{whole}
+use Rattle.regress_engine_runs.proofs.Parts.{none-then, some-then}
+use Rattle.regress_engine_search.specs.Search.{Suits}
+use Rattle.regress_engine_memory.specs.Flow.{Flow, IsFlow}
+use Rattle.regress_engine_linear.specs.Ranks.{Ranking, AreRanked, AreRunning}
+use Rattle.regress_engine_linear.specs.Answered.{Ends, IsAnswered, one_answers}
+use Rattle.regress_engine_linear.proofs.Running.{running-step}
+
+module _ (program : Program) (input : Input) (dir : Direction) where
+  abbrev EndsIn : List Whole → Bool → Type 0
+  EndsIn ss b = Ends program input dir ss b
+
+  -- a run over one state and then others
+  ends-cons : (u : Whole) (us : List Whole) (b c : Bool) → EndsIn (u ∷ []) b → EndsIn us c → EndsIn (u ∷ us) (b || c)
+  ends-cons u us b c (n, Some w, run, some) rest = (n, Some w, some-then program input run w refl us, ap (λ d. d || c) some)
+  ends-cons u us b c (n, None, run, some) (m, a, next, is) = (n + m, a, none-then program input run refl us m a next, is ∙ ap (λ d. d || c) some)
+
+  -- a run over states of each of which it is told
+  ends-all : (told : ℕ → ℕ → Bool) (us : List Whole) → AllByRecursion (λ u. EndsIn (u ∷ []) (told u.at u.offset)) us → EndsIn us (one_answers told us)
+  ends-all told [] each = (0, None, ends, refl)
+  ends-all told (u ∷ us) each = ends-cons u us (told u.at u.offset) (one_answers told us) each.0 (ends-all told us each.1)
+
+  -- a run from a state whose instruction leads to others
+  ends-on : (i : Instruction) (s : Whole) (b : Bool) → Stands program s.at i → is_plain i ≡ true → EndsIn (successors program input i dir s) b → EndsIn (s ∷ []) b
+  ends-on i s b here plain (n, a, run, is) =
+      (suc n, a, goes here plain (subst (λ xs. Run program input dir xs n a) (sym (append-nil (successors program input i dir s))) run), is)
+
+module _ (flow : Flow) (r : Ranking) (v : View) (all : AreOfKind v.kind v.units) (program : Program) (suits : Suits program v) (closed : IsFlow flow program) (ranked : AreRanked flow r program)
+    (dir : Direction) where
+  abbrev last : ℕ
+  last = length v.units
+
+  abbrev Live : Whole → Type 0
+  Live s = AreRunning flow r program last dir s
+
+  -- what is told of an address and an offset is so
+  abbrev Told : (ℕ → ℕ → Bool) → Whole → Type 0
+  Told told u = IsAnswered flow r program (input_of v) last dir u.at u.offset (told u.at u.offset)
+
+  ends-each : (told : ℕ → ℕ → Bool) (us : List Whole) → AllByRecursion (Told told) us → AllByRecursion Live us
+      → AllByRecursion (λ u. Ends program (input_of v) dir (u ∷ []) (told u.at u.offset)) us
+  ends-each told [] each running = tt
+  ends-each told (u ∷ us) each running = (each.0 u.loops u.groups running.0, ends-each told us each.1 running.1)
+
+  -- Of an address it is told by what is told of those to which its instruction leads, from each state that is under way.
+  pub answers-by : (told : ℕ → ℕ → Bool) (at o : ℕ) (i : Instruction) (b : Bool) → Stands program at i → is_plain i ≡ true
+      → ((s : Whole) → s.at ≡ at → s.offset ≡ o → reads_character i ≡ true → ReadsPlaces (reading_of v) i s)
+      → ((loops : List (ℕ × ℕ)) (groups : List Marks) → Live (whole at o loops groups) → AllByRecursion (Told told) (successors program (input_of v) i dir (whole at o loops groups))
+      × (one_answers told (successors program (input_of v) i dir (whole at o loops groups)) ≡ b))
+      → IsAnswered flow r program (input_of v) last dir at o b
+  answers-by told at o i b here plain reads leads loops groups running =
+      let s : Whole = whole at o loops groups in
+      let us : List Whole = successors program (input_of v) i dir s in
+      let (each, is) = leads loops groups running in
+      let (n, a, run, some) = ends-all program (input_of v) dir told us
+      (ends-each told us each (running-step flow r v all program suits closed ranked dir s i running here plain (reads s refl refl))) in
+      ends-on program (input_of v) dir i s b here plain (n, a, run, some ∙ is)
