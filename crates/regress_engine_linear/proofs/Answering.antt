@@ -1,7 +1,7 @@
 -- Whether a run has an answer is told by what is told of the states that it leads to.
 use Rattle.std.specs.Prelude.{is_some}
 use Rattle.std.specs.List.{AllByRecursion}
-use Rattle.std.proofs.Common.{◌≡◌, ℕ, suc, ◌+◌, ◌||◌, Bool, true, false, List, [], ◌∷◌, ◌++◌, length, Option, None, Some, refl, sym, ap, ◌∙◌, subst, append-nil}
+use Rattle.std.proofs.Common.{◌≡◌, ℕ, suc, ◌+◌, ◌||◌, Bool, true, false, if◌then◌else◌, List, [], ◌∷◌, ◌++◌, length, Option, None, Some, refl, sym, ap, ◌∙◌, subst, append-nil}
 use Rattle.regress_meaning.specs.Meaning.{Direction}
 use Rattle.regress_meaning.specs.Inputs.{Input}
 use Rattle.regress_engine_input.specs.Views.{View, AreOfKind, input_of, reading_of}
@@ -10,11 +10,13 @@ use Rattle.regress_engine_runs.specs.States.{Marks, Whole}
 use Rattle.regress_engine_runs.specs.Runs.{Run, ends, goes, is_plain, successors}
 use Rattle.regress_engine_runs.specs.Meets.{reads_character, ReadsPlaces}
 use Rattle.regress_engine_runs.specs.UndoStack.{whole}
-use Rattle.regress_engine_runs.proofs.Parts.{none-then, some-then}
+use Rattle.regress_engine_runs.proofs.Parts.{none-then, run-behind, some-then}
+use Rattle.regress_engine_runs.proofs.Computed.{one_run}
+use Rattle.regress_engine_runs.proofs.RunViews.{run_goes}
 use Rattle.regress_engine_search.specs.Search.{Suits}
 use Rattle.regress_engine_memory.specs.Flow.{Flow, IsFlow}
 use Rattle.regress_engine_linear.specs.Ranks.{Ranking, AreRanked, AreRunning}
-use Rattle.regress_engine_linear.specs.Answered.{Ends, IsAnswered, one_answers}
+use Rattle.regress_engine_linear.specs.Answered.{Ends, IsAnswered, first_told, one_answers}
 use Rattle.regress_engine_linear.proofs.Running.{running-step}
 
 module _ (program : Program) (input : Input) (dir : Direction) where
@@ -35,6 +37,33 @@ module _ (program : Program) (input : Input) (dir : Direction) where
   ends-on : (i : Instruction) (s : Whole) (b : Bool) → Stands program s.at i → is_plain i ≡ true → EndsIn (successors program input i dir s) b → EndsIn (s ∷ []) b
   ends-on i s b here plain (n, a, run, is) =
       (suc n, a, goes here plain (subst (λ xs. Run program input dir xs n a) (sym (append-nil (successors program input i dir s))) run), is)
+
+  -- Where some states have an answer, the first of which it is told has it.
+  first-has : (told : ℕ → ℕ → Bool) (us : List Whole) → AllByRecursion (λ u. EndsIn (u ∷ []) (told u.at u.offset)) us → (n : ℕ) (a : Option Whole) → Run program input dir us n a
+      → (w : Whole) → first_told told us ≡ Some w → (m : ℕ) × Run program input dir (w ∷ []) m a
+  first-has told [] each n a run w is = absurd (cc is)
+  first-has told (u ∷ us) each n a run w is = by_told (told u.at u.offset) each.0 is (λ l rest later. first-has told us each.1 l a rest w later)
+    where
+      by_answer : (m : ℕ) (q : Option Whole) → Run program input dir (u ∷ []) m q → is_some q ≡ true → (k : ℕ) × Run program input dir (u ∷ []) k a
+      by_answer m None first e = absurd (cc e)
+      by_answer m (Some x) first e =
+          let same = (one_run program input (some-then program input first x refl us) run).1 in (m, subst (Run program input dir (u ∷ []) m) same first)
+
+      by_none : (m : ℕ) (q : Option Whole) → Run program input dir (u ∷ []) m q → is_some q ≡ false → first_told told us ≡ Some w
+          → ((l : ℕ) → Run program input dir us l a → first_told told us ≡ Some w → (k : ℕ) × Run program input dir (w ∷ []) k a) → (k : ℕ) × Run program input dir (w ∷ []) k a
+      by_none m (Some x) first e later go = absurd (cc e)
+      by_none m None first e later go = let (k, count, rest) = run-behind program input dir (u ∷ []) us m n a first run in go k rest later
+
+      by_told : (b : Bool) → EndsIn (u ∷ []) b → (if b then Some u else first_told told us) ≡ Some w
+          → ((l : ℕ) → Run program input dir us l a → first_told told us ≡ Some w → (k : ℕ) × Run program input dir (w ∷ []) k a) → (m : ℕ) × Run program input dir (w ∷ []) m a
+      by_told true (m, q, first, some) e go = let same : u ≡ w = cc in let (k, it) = by_answer m q first some in (k, subst (λ x. Run program input dir (x ∷ []) k a) same it)
+      by_told false (m, q, first, some) e go = by_none m q first some e go
+
+  -- what follows the first state of a run that is plain
+  run-onward : (i : Instruction) (s : Whole) (n : ℕ) (a : Option Whole) → Stands program s.at i → is_plain i ≡ true → Run program input dir (s ∷ []) n a
+      → (m : ℕ) × Run program input dir (successors program input i dir s) m a
+  run-onward i s n a here plain run =
+      let (m, count, rest) = run_goes program input i here plain run in (m, subst (λ xs. Run program input dir xs m a) (append-nil (successors program input i dir s)) rest)
 
 module _ (flow : Flow) (r : Ranking) (v : View) (all : AreOfKind v.kind v.units) (program : Program) (suits : Suits program v) (closed : IsFlow flow program) (ranked : AreRanked flow r program)
     (dir : Direction) where

@@ -1,5 +1,5 @@
 -- Whether runs from an address and an offset have an answer.
-use Rattle.std.specs.Prelude.{◌≡◌, ℕ, ◌||◌, Bool, false, List, [], ◌∷◌, Option, is_some}
+use Rattle.std.specs.Prelude.{◌≡◌, ℕ, ◌||◌, Bool, false, List, [], ◌∷◌, Option, Some, None, is_some, if◌then◌else◌}
 use Rattle.regress_meaning.specs.Meaning.{Direction}
 use Rattle.regress_meaning.specs.Inputs.{Input}
 use Rattle.regress_engine_insn.specs.Instructions.{Program}
@@ -22,3 +22,8 @@ IsAnswered flow r program input last dir at o b = (loops : List (ℕ × ℕ)) (g
 abbrev pub one_answers : (told : ℕ → ℕ → Bool) → List Whole → Bool
 one_answers told [] = false
 one_answers told (u ∷ us) = told u.at u.offset || one_answers told us
+
+-- the first of some states that stands where it is told so
+abbrev pub first_told : (told : ℕ → ℕ → Bool) → List Whole → Option Whole
+first_told told [] = None
+first_told told (u ∷ us) = if told u.at u.offset then Some u else first_told told us
