@@ -76,7 +76,7 @@ module _ (flow : Flow) (r : Ranking) (last : ℕ) (program : Program) (input : I
   Running s = AreRunning flow r program last dir s
 
   -- an iteration that is under way may end, and more may begin
-  busy : (f : LoopFields) (at begin o : ℕ) (x : ℕ × ℕ) → Stands program begin (code.enter_loop f) → IsCycle flow r at begin f → IsRunning r last dir at o f.loop_id x
+  pub busy : (f : LoopFields) (at begin o : ℕ) (x : ℕ × ℕ) → Stands program begin (code.enter_loop f) → IsCycle flow r at begin f → IsRunning r last dir at o f.loop_id x
       → ((nat_lt f.least x.0 && (x.1 == o)) ≡ false) × (nat_lt x.0 f.most ≡ true) × (nat_le f.least x.0 ≡ true)
   busy f at begin o x there cycle running = (idle, lt-ltb x.0 f.most (omega (arith, few, most)), out)
     where

@@ -5,3 +5,4 @@ pub mod Beyond
 pub mod FromStart
 pub mod Ranking
 pub mod Answering
+pub mod Formulas

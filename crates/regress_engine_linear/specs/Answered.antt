@@ -1,9 +1,10 @@
 -- Whether runs from an address and an offset have an answer.
-use Rattle.std.specs.Prelude.{◌≡◌, ℕ, ◌||◌, Bool, false, List, [], ◌∷◌, Option, Some, None, is_some, if◌then◌else◌}
+use Rattle.std.specs.Prelude.{◌≡◌, ℕ, suc, ◌&&◌, ◌||◌, Bool, true, false, List, [], ◌∷◌, Option, Some, None, is_some, if◌then◌else◌, slice_get, nat_le}
 use Rattle.regress_meaning.specs.Meaning.{Direction}
 use Rattle.regress_meaning.specs.Inputs.{Input}
-use Rattle.regress_engine_insn.specs.Instructions.{Program}
-use Rattle.regress_engine_runs.specs.Runs.{Run}
+use Rattle.regress_engine_insn.specs.Instructions.{LoopFields, Instruction, Program}
+use Rattle.regress_engine_insn.specs.Instructions as code
+use Rattle.regress_engine_runs.specs.Runs.{Run, advance, counted, fields_of}
 use Rattle.regress_engine_runs.specs.States.{Marks, Whole}
 use Rattle.regress_engine_runs.specs.UndoStack.{whole}
 use Rattle.regress_engine_memory.specs.Flow.{Flow}
@@ -27,3 +28,38 @@ one_answers told (u ∷ us) = told u.at u.offset || one_answers told us
 abbrev pub first_told : (told : ℕ → ℕ → Bool) → List Whole → Option Whole
 first_told told [] = None
 first_told told (u ∷ us) = if told u.at u.offset then Some u else first_told told us
+
+-- one of some offsets is told of at an address
+abbrev pub one_at : (told : ℕ → ℕ → Bool) → (at : ℕ) → List ℕ → Bool
+one_at told at [] = false
+one_at told at (o ∷ os) = told at o || one_at told at os
+
+module _ (told : ℕ → ℕ → Bool) (program : Program) (input : Input) (dir : Direction) where
+  -- behind an instruction that takes characters
+  abbrev pub behind : (at : ℕ) → Option ℕ → Bool
+  behind at None = false
+  behind at (Some o) = told (suc at) o
+
+  -- a repetition goes on, from where it begins or where an iteration ends
+  abbrev pub again : (o begin : ℕ) → Option LoopFields → Bool
+  again o begin None = false
+  again o begin (Some f) = told (suc begin) o || told f.exit o
+
+  -- Whether runs from an address and an offset have an answer, by what is told of those to which its instruction leads.
+  abbrev pub answer_at : Instruction → (at o : ℕ) → Bool
+  answer_at code.goal at o = true
+  answer_at code.fail at o = false
+  answer_at (code.back k icase) at o = false
+  answer_at (code.submatch kind first last continuation) at o = false
+  answer_at (code.jump a) at o = told a o
+  answer_at (code.alt a) at o = told (suc at) o || told a o
+  answer_at (code.begin_group k) at o = told (suc at) o
+  answer_at (code.end_group k) at o = told (suc at) o
+  answer_at (code.reset_group k) at o = told (suc at) o
+  answer_at (code.enter_loop f) at o = told (suc at) o || (nat_le f.least 0 && told f.exit o)
+  answer_at (code.loop_again begin) at o = again o begin (fields_of (slice_get program.instructions begin))
+  answer_at (code.single_loop least most greedy) at o = elim (slice_get program.instructions (suc at)) [
+    | None ↦ false
+    | Some i ↦ one_at told (suc (suc at)) (counted program input least most greedy i dir [] o)
+  ]
+  answer_at i at o = behind at (advance program input i dir [] o)
