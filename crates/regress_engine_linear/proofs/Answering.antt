@@ -1,13 +1,16 @@
 -- Whether a run has an answer is told by what is told of the states that it leads to.
-use Rattle.std.specs.Prelude.{is_some}
+use Rattle.std.specs.Prelude.{is_some, not}
 use Rattle.std.specs.List.{AllByRecursion}
-use Rattle.std.proofs.Common.{◌≡◌, ℕ, suc, ◌+◌, ◌||◌, Bool, true, false, if◌then◌else◌, List, [], ◌∷◌, ◌++◌, length, Option, None, Some, refl, sym, ap, ◌∙◌, subst, append-nil}
+use Rattle.std.proofs.Common.{◌≡◌, ℕ, suc, ◌+◌, ◌&&◌, ◌||◌, inl, Bool, true, false, if◌then◌else◌, List, [], ◌∷◌, ◌++◌, length, Option, None, Some, refl, sym, ap, ◌∙◌, subst, append-nil}
 use Rattle.regress_meaning.specs.Meaning.{Direction}
 use Rattle.regress_meaning.specs.Inputs.{Input}
 use Rattle.regress_engine_input.specs.Views.{View, AreOfKind, input_of, reading_of}
+use Rattle.regress_front_nodes.specs.Trees.{lookaround}
+use Rattle.regress_front_nodes.specs.TreeMeaning.{submatch_direction}
 use Rattle.regress_engine_insn.specs.Instructions.{Instruction, Program, Stands}
-use Rattle.regress_engine_runs.specs.States.{Marks, Whole}
-use Rattle.regress_engine_runs.specs.Runs.{Run, ends, goes, is_plain, successors}
+use Rattle.regress_engine_insn.specs.Instructions as code
+use Rattle.regress_engine_runs.specs.States.{Marks, Whole, mixed}
+use Rattle.regress_engine_runs.specs.Runs.{Run, ends, goes, looks, after_submatch, is_plain, successors}
 use Rattle.regress_engine_runs.specs.Meets.{reads_character, ReadsPlaces}
 use Rattle.regress_engine_runs.specs.UndoStack.{whole}
 use Rattle.regress_engine_runs.proofs.Parts.{none-then, run-behind, some-then}
@@ -17,7 +20,7 @@ use Rattle.regress_engine_search.specs.Search.{Suits}
 use Rattle.regress_engine_memory.specs.Flow.{Flow, IsFlow}
 use Rattle.regress_engine_linear.specs.Ranks.{Ranking, AreRanked, AreRunning}
 use Rattle.regress_engine_linear.specs.Answered.{Ends, IsAnswered, first_told, one_answers}
-use Rattle.regress_engine_linear.proofs.Running.{running-step}
+use Rattle.regress_engine_linear.proofs.Running.{running-behind, running-inside, running-step}
 
 module _ (program : Program) (input : Input) (dir : Direction) where
   abbrev EndsIn : List Whole → Bool → Type 0
@@ -95,3 +98,32 @@ module _ (flow : Flow) (r : Ranking) (v : View) (all : AreOfKind v.kind v.units)
       let (n, a, run, some) = ends-all program (input_of v) dir told us
       (ends-each told us each (running-step flow r v all program suits closed ranked dir s i running here plain (reads s refl refl))) in
       ends-on program (input_of v) dir i s b here plain (n, a, run, some ∙ is)
+
+  -- Of a lookaround it is told by its contents and by where it goes on.
+  pub look-answers : (negated backward : Bool) (low high continuation at o : ℕ) (c d : Bool) → Stands program at (code.submatch (lookaround negated backward) low high continuation)
+      → IsAnswered flow r program (input_of v) last (submatch_direction (lookaround negated backward) dir) (suc at) o c
+      → IsAnswered flow r program (input_of v) last dir continuation o d → IsAnswered flow r program (input_of v) last dir at o ((if negated then not c else c) && d)
+  look-answers negated backward low high continuation at o c d here inner behind loops groups running =
+      let s : Whole = whole at o loops groups in
+      let (m, q, run, some) = inner loops groups (running-inside flow r v all program suits closed ranked dir (lookaround negated backward) low high continuation s running here) in
+      let (n, a, next, is) = by_answer negated c q here some in
+      (suc (m + n), a, looks here run (subst (λ xs. Run program (input_of v) dir xs n a) (sym (append-nil (after_submatch (lookaround negated backward) low high continuation s q))) next), is)
+    where
+      s : Whole
+      s = whole at o loops groups
+
+      -- it goes on, with some groups
+      on : (b : Bool) → Stands program at (code.submatch (lookaround b backward) low high continuation) → (hs : List Marks)
+          → Ends program (input_of v) dir (whole continuation o loops hs ∷ []) d
+      on b there hs = behind loops hs (running-behind flow r v all program suits closed ranked dir (lookaround b backward) low high continuation s running there o hs (inl refl))
+
+      by_answer : (b c : Bool) (q : Option Whole) → Stands program at (code.submatch (lookaround b backward) low high continuation) → is_some q ≡ c
+          → Ends program (input_of v) dir (after_submatch (lookaround b backward) low high continuation s q) ((if b then not c else c) && d)
+      by_answer true true None there e = absurd (cc e)
+      by_answer true false None there e = on true there groups
+      by_answer true true (Some w) there e = (0, None, ends, refl)
+      by_answer true false (Some w) there e = absurd (cc e)
+      by_answer false true None there e = absurd (cc e)
+      by_answer false false None there e = (0, None, ends, refl)
+      by_answer false true (Some w) there e = on false there (mixed 0 low high w.groups groups)
+      by_answer false false (Some w) there e = absurd (cc e)
