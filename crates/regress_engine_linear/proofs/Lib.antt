@@ -6,3 +6,4 @@ pub mod FromStart
 pub mod Ranking
 pub mod Answering
 pub mod Formulas
+pub mod ExitAnswers
