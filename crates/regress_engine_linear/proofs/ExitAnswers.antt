@@ -4,10 +4,13 @@ use Rattle.std.proofs.Common.{◌≡◌, ℕ, zero, suc, ◌+◌, ◌-◌, ◌<�
 use Rattle.std.proofs.lemmas.List.{reverse-append}
 use Rattle.regress_meaning.specs.Meaning.{Direction, Forward, Backward}
 use Rattle.regress_engine_input.specs.Views.{View, AreOfKind, input_of}
-use Rattle.regress_engine_insn.specs.Instructions.{Instruction, Program}
+use Rattle.regress_engine_insn.specs.Instructions.{Instruction, Program, Stands}
 use Rattle.regress_engine_runs.specs.Closed.{takes_character}
-use Rattle.regress_engine_runs.specs.Runs.{advance, one_by_one, room}
-use Rattle.regress_engine_memory.proofs.Taking.{advance-takes, one-takes, taking-unreferring}
+use Rattle.regress_engine_runs.specs.Runs.{advance, after_times, as_far, counted, given_back, one_by_one, room}
+use Rattle.regress_engine_search.specs.Ready.{IsBody}
+use Rattle.regress_engine_search.specs.Search.{Suits}
+use Rattle.regress_engine_search.proofs.GivenBack.{given-back}
+use Rattle.regress_engine_memory.proofs.Taking.{advance-takes, after-on, one-takes, taking-unreferring}
 use Rattle.regress_engine_linear.specs.Answered.{one_at}
 
 or-both : (a b c : Bool) → ((a || b) || c) ≡ (a || (b || c))
@@ -81,3 +84,34 @@ module _ (v : View) (program : Program) (dir : Direction) (i : Instruction) (tak
           ≡ (told at o || elim x [ None ↦ false | Some q ↦ one_at told at (one_by_one program (input_of v) n i dir [] q) ])
       by_value None here = refl
       by_value (Some q) here = refl
+
+-- Whether one of the exits of a loop that takes as many characters as there are answers, is told by whether one does from behind its least number on.
+module _ (v : View) (all : AreOfKind v.kind v.units) (program : Program) (suits : Suits program v) (dir : Direction) (told : ℕ → ℕ → Bool) (at : ℕ) (i : Instruction)
+    (there : Stands program (at - 1) i) (takes : takes_character i ≡ true) where
+  after-body : (n o q : ℕ) → IsBody program v at o → after_times program (input_of v) n i dir [] o ≡ Some q → IsBody program v at q
+  after-body n o q body e = (after-on v all program suits dir [] at i there takes n o q body e).1
+
+  pub counted-told : (least most : ℕ) (greedy : Bool) (o : ℕ) → IsBody program v at o → length v.units ≤ most - least → ((q : ℕ) → room (length v.units) dir q ≤ length v.units)
+      → one_at told at (counted program (input_of v) least most greedy i dir [] o)
+      ≡ elim (after_times program (input_of v) least i dir [] o) [ None ↦ false | Some near ↦ one_at told at (one_by_one program (input_of v) (length v.units) i dir [] near) ]
+  counted-told least most greedy o body enough low = by_near (after_times program (input_of v) least i dir [] o) refl
+    where
+      by_way : (near : ℕ) → IsBody program v at near → (g : Bool)
+          → one_at told at (if g then given_back (input_of v) dir near (as_far program (input_of v) (most - least) i dir [] near) else one_by_one program (input_of v) (most - least) i dir [] near)
+          ≡ one_at told at (one_by_one program (input_of v) (length v.units) i dir [] near)
+      by_way near here true =
+          let less = low near in
+          ap (one_at told at) (given-back v all program suits dir [] at i (most - least) near here there)
+          ∙ at-turned told at (one_by_one program (input_of v) (most - least) i dir [] near)
+          ∙ ap (one_at told at) (exits-same v program dir i takes (most - least) (length v.units) near (omega (arith, less, enough)) less)
+      by_way near here false =
+          let less = low near in ap (one_at told at) (exits-same v program dir i takes (most - least) (length v.units) near (omega (arith, less, enough)) less)
+
+      by_near : (x : Option ℕ) → after_times program (input_of v) least i dir [] o ≡ x
+          → one_at told at (elim x [
+            | None ↦ []
+            | Some near ↦ if greedy then given_back (input_of v) dir near (as_far program (input_of v) (most - least) i dir [] near)
+                else one_by_one program (input_of v) (most - least) i dir [] near
+          ]) ≡ elim x [ None ↦ false | Some near ↦ one_at told at (one_by_one program (input_of v) (length v.units) i dir [] near) ]
+      by_near None here = refl
+      by_near (Some near) here = by_way near (after-body least o near body here) greedy

@@ -151,7 +151,7 @@ module _ (v : View) (all : AreOfKind v.kind v.units) (program : Program) (suits 
   one-on : (o q : ℕ) → advance program (input_of v) i dir groups o ≡ Some q → On 1 o q
   one-on o q e = takes-fewer (length v.units) dir (taken_by i) 1 o q (one-takes i takes) (advance-takes v program i dir groups o q (taking-unreferring i takes) e)
 
-  after-on : (n o q : ℕ) → IsBody program v at o → after_times program (input_of v) n i dir groups o ≡ Some q → On n o q × IsBody program v at q
+  pub after-on : (n o q : ℕ) → IsBody program v at o → after_times program (input_of v) n i dir groups o ≡ Some q → On n o q × IsBody program v at q
   unfolding after_times
   after-on zero o q body e = let same : o ≡ q = cc in (takes-none (length v.units) dir o q same, subst (IsBody program v at) same body)
   after-on (suc n) o q body e = by_value (advance program (input_of v) i dir groups o) refl e (after-on n)
