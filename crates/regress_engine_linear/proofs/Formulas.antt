@@ -24,10 +24,10 @@ or-none true = refl
 or-none false = refl
 
 module _ (told : ℕ → ℕ → Bool) (program : Program) (input : Input) (dir : Direction) (o : ℕ) (ls : List (ℕ × ℕ)) (gs : List Marks) where
-  moved-answers : (at : ℕ) (x y : Option ℕ) → x ≡ y → one_answers told (moved_to (whole at o ls gs) x) ≡ behind told program input dir at y
+  moved-answers : (at : ℕ) (x y : Option ℕ) → x ≡ y → one_answers told (moved_to (whole at o ls gs) x) ≡ behind told at y
   moved-answers at x y e = ap (λ z. one_answers told (moved_to (whole at o ls gs) z)) e ∙ same y
     where
-      same : (y : Option ℕ) → one_answers told (moved_to (whole at o ls gs) y) ≡ behind told program input dir at y
+      same : (y : Option ℕ) → one_answers told (moved_to (whole at o ls gs) y) ≡ behind told at y
       same None = refl
       same (Some q) = or-none (told (suc at) q)
 
@@ -105,7 +105,7 @@ module _ (flow : Flow) (r : Ranking) (last : ℕ) (program : Program) (input : I
           ap (one_answers told) (again-successors program input dir s begin f there)
           ∙ ap (λ (b : Bool). one_answers told (if b then [] else choices f begin s)) one.0
           ∙ choices-answer f begin s true true one.1 one.2
-          ∙ ap (λ (x : Option Instruction). again told program input dir o begin (fields_of x)) (sym there)
+          ∙ ap (λ (x : Option Instruction). again told o begin (fields_of x)) (sym there)
 
   -- It is whether one of those has an answer to which the instruction leads.
   pub answers-are : (i : Instruction) (at o : ℕ) (ls : List (ℕ × ℕ)) (gs : List Marks) → Stands program at i → is_plain i ≡ true → Running (whole at o ls gs)

@@ -4,6 +4,6 @@ pub mod RunsAlike
 pub mod Beyond
 pub mod FromStart
 pub mod Ranking
-pub mod Answering
+pub mod AnswerLemmas
 pub mod Formulas
 pub mod ExitAnswers

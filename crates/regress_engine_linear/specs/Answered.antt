@@ -34,17 +34,17 @@ abbrev pub one_at : (told : ℕ → ℕ → Bool) → (at : ℕ) → List ℕ �
 one_at told at [] = false
 one_at told at (o ∷ os) = told at o || one_at told at os
 
+-- behind an instruction that takes characters
+abbrev pub behind : (told : ℕ → ℕ → Bool) → (at : ℕ) → Option ℕ → Bool
+behind told at None = false
+behind told at (Some o) = told (suc at) o
+
+-- a repetition goes on, from where it begins or where an iteration ends
+abbrev pub again : (told : ℕ → ℕ → Bool) → (o begin : ℕ) → Option LoopFields → Bool
+again told o begin None = false
+again told o begin (Some f) = told (suc begin) o || told f.exit o
+
 module _ (told : ℕ → ℕ → Bool) (program : Program) (input : Input) (dir : Direction) where
-  -- behind an instruction that takes characters
-  abbrev pub behind : (at : ℕ) → Option ℕ → Bool
-  behind at None = false
-  behind at (Some o) = told (suc at) o
-
-  -- a repetition goes on, from where it begins or where an iteration ends
-  abbrev pub again : (o begin : ℕ) → Option LoopFields → Bool
-  again o begin None = false
-  again o begin (Some f) = told (suc begin) o || told f.exit o
-
   -- Whether runs from an address and an offset have an answer, by what is told of those to which its instruction leads.
   abbrev pub answer_at : Instruction → (at o : ℕ) → Bool
   answer_at code.goal at o = true
@@ -57,9 +57,9 @@ module _ (told : ℕ → ℕ → Bool) (program : Program) (input : Input) (dir 
   answer_at (code.end_group k) at o = told (suc at) o
   answer_at (code.reset_group k) at o = told (suc at) o
   answer_at (code.enter_loop f) at o = told (suc at) o || (nat_le f.least 0 && told f.exit o)
-  answer_at (code.loop_again begin) at o = again o begin (fields_of (slice_get program.instructions begin))
+  answer_at (code.loop_again begin) at o = again told o begin (fields_of (slice_get program.instructions begin))
   answer_at (code.single_loop least most greedy) at o = elim (slice_get program.instructions (suc at)) [
     | None ↦ false
     | Some i ↦ one_at told (suc (suc at)) (counted program input least most greedy i dir [] o)
   ]
-  answer_at i at o = behind at (advance program input i dir [] o)
+  answer_at i at o = behind told at (advance program input i dir [] o)

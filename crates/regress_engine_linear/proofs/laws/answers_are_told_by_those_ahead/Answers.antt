@@ -1,4 +1,4 @@
-use Rattle.regress_engine_linear.proofs.Answering.{answers-by}
+use Rattle.regress_engine_linear.proofs.AnswerLemmas.{answers-by}
 use Rattle.regress_engine_linear.proofs.laws.answers_are_told_by_those_ahead.Goals as goal
 
 pub returns : goal.returns
