@@ -63,3 +63,8 @@ module _ (told : ℕ → ℕ → Bool) (program : Program) (input : Input) (dir 
     | Some i ↦ one_at told (suc (suc at)) (counted program input least most greedy i dir [] o)
   ]
   answer_at i at o = behind told at (advance program input i dir [] o)
+
+-- an instruction is a one-character loop
+abbrev pub is_single : Instruction → Bool
+is_single (code.single_loop least most greedy) = true
+is_single _ = false

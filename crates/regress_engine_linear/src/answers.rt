@@ -1,13 +1,14 @@
 //! Whether runs from the addresses of a program and the offsets of a text have an answer.
-ghost use Rattle.std.specs.Prelude.{◌≡◌, ◌+◌, ◌^◌, ◌<◌, false, true, map};
+ghost use Rattle.std.specs.Prelude.{◌≡◌, ◌+◌, ◌^◌, ◌<◌, false, true, None, map, slice_get};
 ghost use Rattle.regress_engine_code.specs.Standing.{program_of};
 ghost use Rattle.regress_engine_input.specs.Views.{direction_of, input_of};
 ghost use Rattle.regress_engine_insn.specs.InsnViews.{instruction};
-ghost use Rattle.regress_engine_runs.specs.Runs.{is_plain};
+ghost use Rattle.regress_engine_runs.specs.Meets.{referred};
+ghost use Rattle.regress_engine_runs.specs.Runs.{fields_of};
 ghost use Rattle.regress_engine_search.specs.Ready.{IsReady};
 ghost use Rattle.regress_engine_search.specs.Search.{Suits};
 ghost use Rattle.regress_engine_search.specs.StateViews.{marks_of};
-ghost use Rattle.regress_engine_linear.specs.Answered.{answer_at, behind};
+ghost use Rattle.regress_engine_linear.specs.Answered.{again, answer_at, behind, is_single};
 ghost use Rattle.regress_engine_linear.specs.AnswerTables.{told_by};
 
 use regress_engine_advance::advance;
@@ -57,4 +58,72 @@ pub struct Answering<'a, Input> {
     pub(crate) input: Input,
     /// As many groups as the program has, none of which took anything.
     pub(crate) groups: &'a [GroupData<usize>],
+}
+
+impl<'a, Input: ExecutorInput> Answering<'a, Input> {
+    /// Whether a repetition that begins at an address goes on where runs have an answer, from where it begins or where an iteration ends.
+    fn again(&self, answers: &Answers, begin: usize, offset: usize) -> bool
+        requires { begin + 1 < 2 ^ 64 }
+        ensures { result ≡ again (told_by answers.now) offset begin (fields_of (slice_get (program_of self.now.program.now).instructions begin)) }
+    {
+        match self.program.insns().get(begin) {
+            Some(Insn::EnterLoop(repetition)) => {
+                answers.are_told(begin + 1, offset)
+                    || answers.are_told(repetition.exit as usize, offset)
+            }
+            _ => false,
+        }
+    }
+
+    /// Whether runs from an address and an offset have an answer, where it is told of those to which its instruction leads. The
+    /// instruction is no lookaround, no atomic group and no one-character loop.
+    pub(crate) fn answer(
+        &self,
+        answers: &Answers,
+        insn: &Insn,
+        forward: bool,
+        at: usize,
+        offset: usize,
+    ) -> bool
+        requires suits { Suits (program_of self.now.program.now) (Input.view self.now.input) }
+        requires ready { IsReady (program_of self.now.program.now) (Input.view self.now.input) (instruction insn.now) (map marks_of self.now.groups.now) offset }
+        requires room { at + 1 < 2 ^ 64 }
+        requires plain { is_single (instruction insn.now) ≡ false }
+        requires calm { referred (instruction insn.now) ≡ None }
+        ensures { result ≡ answer_at (told_by answers.now) (program_of self.now.program.now) (input_of (Input.view self.now.input)) (direction_of forward)
+            (instruction insn.now) at offset }
+    {
+        match insn {
+            Insn::Goal => true,
+            Insn::JustFail
+            | Insn::Lookahead { .. }
+            | Insn::Lookbehind { .. }
+            | Insn::Atomic { .. }
+            | Insn::Loop1CharBody { .. } => false,
+            Insn::Jump { target } => answers.are_told(*target as usize, offset),
+            Insn::Alt { secondary } => {
+                answers.are_told(at + 1, offset) || answers.are_told(*secondary as usize, offset)
+            }
+            Insn::BeginCaptureGroup(_) | Insn::EndCaptureGroup(_) | Insn::ResetCaptureGroup(_) => {
+                answers.are_told(at + 1, offset)
+            }
+            Insn::EnterLoop(repetition) => {
+                answers.are_told(at + 1, offset)
+                    || (repetition.min_iters == 0
+                        && answers.are_told(repetition.exit as usize, offset))
+            }
+            Insn::LoopAgain { begin } => self.again(answers, *begin as usize, offset),
+            _ => {
+                let next = advance(
+                    self.program,
+                    &self.input,
+                    insn,
+                    forward,
+                    self.groups,
+                    offset,
+                );
+                answers.are_told_behind(at, next)
+            }
+        }
+    }
 }
