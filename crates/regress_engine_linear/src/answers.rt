@@ -1,5 +1,5 @@
 //! Whether runs from the addresses of a program and the offsets of a text have an answer.
-ghost use Rattle.std.specs.Prelude.{◌≡◌, ◌+◌, ◌^◌, ◌<◌, false, true, None, map, slice_get};
+ghost use Rattle.std.specs.Prelude.{◌≡◌, ◌+◌, ◌^◌, ◌<◌, ◌&&◌, ◌||◌, ◌==◌, ℕ, false, true, None, OnErr, OnOk, length, map, slice_get};
 ghost use Rattle.regress_engine_code.specs.Standing.{program_of};
 ghost use Rattle.regress_engine_input.specs.Views.{direction_of, input_of};
 ghost use Rattle.regress_engine_insn.specs.InsnViews.{instruction};
@@ -17,6 +17,7 @@ use regress_engine_insn::Insn;
 use regress_engine_memory::Bits;
 use regress_engine_search::ExecutorInput;
 use regress_front_core::GroupData;
+use std::alloc::AllocError;
 
 /// For each address of a program the offsets of a text from which runs have an answer.
 #[derive(Debug, Drop)]
@@ -36,6 +37,16 @@ impl Answers {
         ensures { result ≡ told_by self.now at offset }
     {
         at < self.offsets.len() && self.offsets[at].contains(offset)
+    }
+
+    /// Tells that runs from an address and an offset have an answer. It errs where memory is refused, and then no more is told.
+    pub(crate) fn tell(&mut self, at: usize, offset: usize) -> Result<(), AllocError>
+        requires { at < length self.old.offsets.items }
+        ensures count { length self.new.offsets.items ≡ length self.old.offsets.items }
+        ensures told { OnOk result ((a o : ℕ) → told_by self.new a o ≡ (told_by self.old a o || ((a == at) && (offset == o)))) }
+        ensures err { OnErr result ((a o : ℕ) → told_by self.new a o ≡ told_by self.old a o) }
+    {
+        self.offsets[at].insert(offset)
     }
 
     /// The same one address further, at an offset, if there is one.
