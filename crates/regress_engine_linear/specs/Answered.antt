@@ -1,7 +1,8 @@
 -- Whether runs from an address and an offset have an answer.
-use Rattle.std.specs.Prelude.{◌≡◌, ℕ, suc, ◌&&◌, ◌||◌, Bool, true, false, List, [], ◌∷◌, Option, Some, None, is_some, if◌then◌else◌, slice_get, nat_le}
+use Rattle.std.specs.Prelude.{◌≡◌, ℕ, suc, ◌&&◌, ◌||◌, Bool, true, false, List, [], ◌∷◌, Option, Some, None, is_some, not, if◌then◌else◌, slice_get, nat_le}
 use Rattle.regress_meaning.specs.Meaning.{Direction}
 use Rattle.regress_meaning.specs.Inputs.{Input}
+use Rattle.regress_front_nodes.specs.Trees.{Submatch, lookaround, atomic}
 use Rattle.regress_engine_insn.specs.Instructions.{LoopFields, Instruction, Program}
 use Rattle.regress_engine_insn.specs.Instructions as code
 use Rattle.regress_engine_runs.specs.Runs.{Run, advance, counted, fields_of}
@@ -50,7 +51,9 @@ module _ (told : ℕ → ℕ → Bool) (program : Program) (input : Input) (dir 
   answer_at code.goal at o = true
   answer_at code.fail at o = false
   answer_at (code.back k icase) at o = false
-  answer_at (code.submatch kind first last continuation) at o = false
+  answer_at (code.submatch (lookaround negated backward) first last continuation) at o =
+      let has = told (suc at) o in (if negated then not has else has) && told continuation o
+  answer_at (code.submatch atomic first last continuation) at o = false
   answer_at (code.jump a) at o = told a o
   answer_at (code.alt a) at o = told (suc at) o || told a o
   answer_at (code.begin_group k) at o = told (suc at) o

@@ -87,7 +87,7 @@ impl<'a, Input: ExecutorInput> Answering<'a, Input> {
     }
 
     /// Whether runs from an address and an offset have an answer, where it is told of those to which its instruction leads. The
-    /// instruction is no lookaround, no atomic group and no one-character loop.
+    /// instruction is no atomic group and no one-character loop.
     pub(crate) fn answer(
         &self,
         answers: &Answers,
@@ -106,11 +106,20 @@ impl<'a, Input: ExecutorInput> Answering<'a, Input> {
     {
         match insn {
             Insn::Goal => true,
-            Insn::JustFail
-            | Insn::Lookahead { .. }
-            | Insn::Lookbehind { .. }
-            | Insn::Atomic { .. }
-            | Insn::Loop1CharBody { .. } => false,
+            Insn::JustFail | Insn::Atomic { .. } | Insn::Loop1CharBody { .. } => false,
+            Insn::Lookahead {
+                negate,
+                continuation,
+                ..
+            }
+            | Insn::Lookbehind {
+                negate,
+                continuation,
+                ..
+            } => {
+                answers.are_told(at + 1, offset) != *negate
+                    && answers.are_told(*continuation as usize, offset)
+            }
             Insn::Jump { target } => answers.are_told(*target as usize, offset),
             Insn::Alt { secondary } => {
                 answers.are_told(at + 1, offset) || answers.are_told(*secondary as usize, offset)
@@ -136,5 +145,31 @@ impl<'a, Input: ExecutorInput> Answering<'a, Input> {
                 answers.are_told_behind(at, next)
             }
         }
+    }
+
+    /// Works out whether runs from an address and an offset have an answer, where that is told of those to which its instruction leads, and
+    /// tells it. It errs where memory is refused, and then no more is told.
+    pub(crate) fn work_out(
+        &self,
+        answers: &mut Answers,
+        insn: &Insn,
+        forward: bool,
+        at: usize,
+        offset: usize,
+    ) -> Result<(), AllocError>
+        requires suits { Suits (program_of self.now.program.now) (Input.view self.now.input) }
+        requires ready { IsReady (program_of self.now.program.now) (Input.view self.now.input) (instruction insn.now) (map marks_of self.now.groups.now) offset }
+        requires room { at + 1 < 2 ^ 64 }
+        requires within { at < length answers.old.offsets.items }
+        requires plain { is_single (instruction insn.now) ≡ false }
+        requires calm { referred (instruction insn.now) ≡ None }
+        ensures count { length answers.new.offsets.items ≡ length answers.old.offsets.items }
+        ensures told { OnOk result ((a o : ℕ) → told_by answers.new a o ≡ (told_by answers.old a o || (((a == at) && (offset == o))
+            && answer_at (told_by answers.old) (program_of self.now.program.now) (input_of (Input.view self.now.input)) (direction_of forward) (instruction insn.now) at offset))) }
+    {
+        if self.answer(answers, insn, forward, at, offset) {
+            answers.tell(at, offset)?;
+        }
+        Ok(())
     }
 }
