@@ -1,14 +1,14 @@
 //! Whether runs from the addresses of a program and the offsets of a text have an answer.
-ghost use Rattle.std.specs.Prelude.{◌≡◌, ◌+◌, ◌^◌, ◌<◌, ◌&&◌, ◌||◌, ◌==◌, ℕ, false, true, None, OnErr, OnOk, length, map, slice_get};
+ghost use Rattle.std.specs.Prelude.{◌≡◌, ◌+◌, ◌^◌, ◌<◌, ◌&&◌, ◌||◌, ◌==◌, ℕ, [], false, true, None, OnErr, OnOk, length, map, slice_get};
 ghost use Rattle.regress_engine_code.specs.Standing.{program_of};
 ghost use Rattle.regress_engine_input.specs.Views.{direction_of, input_of};
 ghost use Rattle.regress_engine_insn.specs.InsnViews.{instruction};
 ghost use Rattle.regress_engine_runs.specs.Meets.{referred};
-ghost use Rattle.regress_engine_runs.specs.Runs.{fields_of};
+ghost use Rattle.regress_engine_runs.specs.Runs.{advance, fields_of};
 ghost use Rattle.regress_engine_search.specs.Ready.{IsReady};
 ghost use Rattle.regress_engine_search.specs.Search.{Suits};
 ghost use Rattle.regress_engine_search.specs.StateViews.{marks_of};
-ghost use Rattle.regress_engine_linear.specs.Answered.{again, answer_at, behind, is_single};
+ghost use Rattle.regress_engine_linear.specs.Answered.{again, answer_at, behind, exits_at, is_single, single_at};
 ghost use Rattle.regress_engine_linear.specs.AnswerTables.{told_by};
 
 use regress_engine_advance::advance;
@@ -39,14 +39,18 @@ impl Answers {
         at < self.offsets.len() && self.offsets[at].contains(offset)
     }
 
-    /// Tells that runs from an address and an offset have an answer. It errs where memory is refused, and then no more is told.
-    pub(crate) fn tell(&mut self, at: usize, offset: usize) -> Result<(), AllocError>
+    /// Tells that runs from an address and an offset have an answer, if they have. It errs where memory is refused, and then no more is
+    /// told.
+    pub(crate) fn tell(&mut self, has: bool, at: usize, offset: usize) -> Result<(), AllocError>
         requires { at < length self.old.offsets.items }
         ensures count { length self.new.offsets.items ≡ length self.old.offsets.items }
-        ensures told { OnOk result ((a o : ℕ) → told_by self.new a o ≡ (told_by self.old a o || ((a == at) && (offset == o)))) }
+        ensures told { OnOk result ((a o : ℕ) → told_by self.new a o ≡ (told_by self.old a o || (((a == at) && (offset == o)) && has))) }
         ensures err { OnErr result ((a o : ℕ) → told_by self.new a o ≡ told_by self.old a o) }
     {
-        self.offsets[at].insert(offset)
+        if has {
+            self.offsets[at].insert(offset)?;
+        }
+        Ok(())
     }
 
     /// The same one address further, at an offset, if there is one.
@@ -167,9 +171,43 @@ impl<'a, Input: ExecutorInput> Answering<'a, Input> {
         ensures told { OnOk result ((a o : ℕ) → told_by answers.new a o ≡ (told_by answers.old a o || (((a == at) && (offset == o))
             && answer_at (told_by answers.old) (program_of self.now.program.now) (input_of (Input.view self.now.input)) (direction_of forward) (instruction insn.now) at offset))) }
     {
-        if self.answer(answers, insn, forward, at, offset) {
-            answers.tell(at, offset)?;
-        }
-        Ok(())
+        let has = self.answer(answers, insn, forward, at, offset);
+        answers.tell(has, at, offset)
+    }
+
+    /// The same of a one-character loop, of which at least one character is taken or none: it is also told of the address of what is
+    /// repeated, where no run comes, whether one of the exits has an answer from the offset on.
+    pub(crate) fn work_out_single(
+        &self,
+        answers: &mut Answers,
+        body: &Insn,
+        least: usize,
+        forward: bool,
+        at: usize,
+        offset: usize,
+    ) -> Result<(), AllocError>
+        requires suits { Suits (program_of self.now.program.now) (Input.view self.now.input) }
+        requires ready { IsReady (program_of self.now.program.now) (Input.view self.now.input) (instruction body.now) (map marks_of self.now.groups.now) offset }
+        requires room { at + 2 < 2 ^ 64 }
+        requires within { at + 1 < length answers.old.offsets.items }
+        requires calm { referred (instruction body.now) ≡ None }
+        ensures count { length answers.new.offsets.items ≡ length answers.old.offsets.items }
+        ensures told { OnOk result ((a o : ℕ) → told_by answers.new a o ≡ ((told_by answers.old a o || (((a == (at + 1)) && (offset == o))
+            && exits_at (told_by answers.old) at offset (advance (program_of self.now.program.now) (input_of (Input.view self.now.input)) (instruction body.now) (direction_of forward) [] offset)))
+            || (((a == at) && (offset == o)) && single_at (told_by answers.old) least at offset (advance (program_of self.now.program.now) (input_of (Input.view self.now.input)) (instruction body.now) (direction_of forward) [] offset)))) }
+    {
+        let next = advance(
+            self.program,
+            &self.input,
+            body,
+            forward,
+            self.groups,
+            offset,
+        );
+        let behind = answers.are_told_behind(at, next);
+        let exits = answers.are_told(at + 2, offset) || behind;
+        answers.tell(exits, at + 1, offset)?;
+        let has = if least == 0 { exits } else { behind };
+        answers.tell(has, at, offset)
     }
 }
