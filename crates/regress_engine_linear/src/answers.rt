@@ -63,6 +63,26 @@ impl Answers {
             None => false,
         }
     }
+
+    /// Whether one of the exits of a one-character loop has an answer, from an offset on; `next` is the offset behind one more character.
+    fn have_exits(&self, at: usize, offset: usize, next: Option<usize>) -> bool
+        requires { at + 2 < 2 ^ 64 }
+        ensures { result ≡ exits_at (told_by self.now) at offset next }
+    {
+        self.are_told(at + 2, offset) || self.are_told_behind(at, next)
+    }
+
+    /// Whether the loop has, of which one character is taken at least or none.
+    fn has_single(&self, least: usize, at: usize, offset: usize, next: Option<usize>) -> bool
+        requires { at + 2 < 2 ^ 64 }
+        ensures { result ≡ single_at (told_by self.now) least at offset next }
+    {
+        if least == 0 {
+            self.have_exits(at, offset, next)
+        } else {
+            self.are_told_behind(at, next)
+        }
+    }
 }
 
 /// A program and a text, whose answers are worked out.
@@ -204,10 +224,9 @@ impl<'a, Input: ExecutorInput> Answering<'a, Input> {
             self.groups,
             offset,
         );
-        let behind = answers.are_told_behind(at, next);
-        let exits = answers.are_told(at + 2, offset) || behind;
+        let exits = answers.have_exits(at, offset, next);
+        let has = answers.has_single(least, at, offset, next);
         answers.tell(exits, at + 1, offset)?;
-        let has = if least == 0 { exits } else { behind };
         answers.tell(has, at, offset)
     }
 }
