@@ -158,6 +158,15 @@ const HOSTILE: &[HostileRow] = &[
     (r"(x|){65536,}?\n", "x", 60, "\n", Some((0, 61))),
     ("(?:(?:yy)?|x){65536,}z", "x", 60, "", None),
     ("(?:x{0,40}|y){65536,}z", "x", 60, "", None),
+    // Many ways to begin an iteration take nothing.
+    (
+        "(?:(?:|x|)(?:|x|)(?:|x|)(?:|x|)(?:|x|)(?:|x|)(?:|x|)(?:|x|)(?:|x|)(?:|x|)(?:|x|)(?:|x|)(?:|x|)\
+         (?:|x|)(?:|x|)(?:|x|)(?:|x|)(?:|x|)(?:|x|)(?:|x|)(?:|x|)(?:|x|)(?:|x|)(?:|x|)(?:|x|)(?:|x|)a)*b",
+        "a",
+        12,
+        "",
+        None,
+    ),
     // A loop of many iterations has a plane for each.
     ("(a|a){0,1000}b", "a", 1_500, "", None),
     ("(?:a|aa){500}b", "a", 900, "", None),

@@ -92,7 +92,7 @@ impl<'a, Input: ExecutorInput> Attempt<'a, Input> {
         if !self.is_choice(spot.at) {
             return Ok(false);
         }
-        if failures.is_known(spot, memory.loops()) {
+        if failures.is_known_here(spot, memory.loops()) {
             return Ok(true);
         }
         memory.push(Undo::Tried {

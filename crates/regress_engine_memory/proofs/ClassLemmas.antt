@@ -1,9 +1,20 @@
 -- Loops by their numbers, and one by one.
 use Rattle.std.specs.Prelude.{if◌then◌else◌}
-use Rattle.std.proofs.Common.{◌≡◌, ℕ, suc, ◌<◌, ◌||◌, ◌==◌, Bool, true, false, List, [], ◌∷◌, length, get_or, refl, sym, ap, ◌∙◌, subst, arith}
-use Rattle.std.proofs.lemmas.Bool.{eqb-true}
+use Rattle.std.specs.List.{list_all}
+use Rattle.std.proofs.Common.{◌≡◌, ℕ, suc, ◌<◌, ◌||◌, ◌==◌, inl, inr, Bool, true, false, List, [], ◌∷◌, length, get_or, refl, sym, ap, ◌∙◌, subst, arith}
+use Rattle.std.proofs.lemmas.Bool.{and_parts, or_cases, eqb-true}
 use Rattle.regress_meaning.specs.Text.{holds}
 use Rattle.regress_engine_memory.specs.Remembered.{class_in}
+
+-- a test that each of some numbers passes is passed by what is among them
+pub all-held : (test : ℕ → Bool) (ids : List ℕ) → list_all test ids ≡ true → (id : ℕ) → holds ids id ≡ true → test id ≡ true
+all-held test [] e id h = absurd (cc h)
+all-held test (x ∷ ids) e id h =
+    let both = and_parts (test x) (list_all test ids) e in
+    elim (or_cases (x == id) (holds ids id) h) [
+      | inl same ↦ subst (λ i. test i ≡ true) (eqb-true x id same) both.0
+      | inr later ↦ all-held test ids both.1 id later
+    ]
 
 -- what holds of each of some numbers, one by one, holds of what is among them
 pub each-held : (P : ℕ → Type 0) (ids : List ℕ) → ((k : ℕ) → k < length ids → P (get_or ids k 0)) → (id : ℕ) → holds ids id ≡ true → P id

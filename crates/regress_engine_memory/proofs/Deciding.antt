@@ -10,17 +10,8 @@ use Rattle.regress_engine_runs.specs.Runs.{fields_of}
 use Rattle.regress_engine_runs.specs.Meets.{referred}
 use Rattle.regress_engine_memory.specs.Flow.{Hands, Writes, IsToldOf, BeginsAnew, Flows, IsFlow}
 use Rattle.regress_engine_memory.specs.Deciding.{Table, calm_at, live_at, bounds_of, flow_of, hands, writes, is_told_of, begins_anew, ends_iteration, flows, flows_if_calm, is_flow}
+use Rattle.regress_engine_memory.proofs.ClassLemmas.{all-held}
 use Rattle.regress_engine_memory.proofs.TableLemmas.{each-passes}
-
--- what is among some numbers that are all among others is among these
-among : (xs ys : List ℕ) → list_all (holds ys) xs ≡ true → (c : ℕ) → holds xs c ≡ true → holds ys c ≡ true
-among [] ys e c h = absurd (cc h)
-among (x ∷ xs) ys e c h =
-    let both = and_parts (holds ys x) (list_all (holds ys) xs) e in
-    elim (or_cases (x == c) (holds xs c) h) [
-      | inl same ↦ subst (λ d. holds ys d ≡ true) (eqb-true x c same) both.0
-      | inr later ↦ among xs ys both.1 c later
-    ]
 
 -- nothing is among no numbers
 none-among : (xs : List ℕ) → (length xs == 0) ≡ true → (c : ℕ) → holds xs c ≡ true → ⊥
@@ -31,12 +22,12 @@ module _ (t : Table) where
   hands-so : (from to : ℕ) → hands t from to ≡ true → Hands (flow_of t) from to
   hands-so from to e =
       let both = and_parts (calm_at t to) (list_all (holds (live_at t from)) (live_at t to)) e in
-      record { calm = both.0; live = λ id l. among (live_at t to) (live_at t from) both.1 id l }
+      record { calm = both.0; live = λ id l. all-held (holds (live_at t from)) (live_at t to) both.1 id l }
 
   writes-so : (written from to : ℕ) → writes t written from to ≡ true → Writes (flow_of t) written from to
   writes-so written from to e =
       let both = and_parts (calm_at t to) (list_all (holds (written ∷ live_at t from)) (live_at t to)) e in
-      record { calm = both.0; live = λ id ne l. other id ne (among (live_at t to) (written ∷ live_at t from) both.1 id l) }
+      record { calm = both.0; live = λ id ne l. other id ne (all-held (holds (written ∷ live_at t from)) (live_at t to) both.1 id l) }
     where
       other : (id : ℕ) → (id ≡ written → ⊥) → holds (written ∷ live_at t from) id ≡ true → holds (live_at t from) id ≡ true
       other id ne h = elim (or_cases (written == id) (holds (live_at t from) id) h) [ inl same ↦ absurd (ne (sym (eqb-true written id same))) | inr later ↦ later ]

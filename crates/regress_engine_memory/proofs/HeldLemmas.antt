@@ -12,12 +12,12 @@ use Rattle.regress_engine_runs.proofs.RunViews.{one_stands}
 use Rattle.regress_engine_runs.specs.UndoStack.{tried, stands_for}
 use Rattle.regress_engine_search.specs.Search.{Suits}
 use Rattle.regress_engine_search.specs.Tasks.{Leads, IsTried}
-use Rattle.regress_engine_search.proofs.TaskLemmas.{leads-trying}
+use Rattle.regress_engine_search.proofs.TaskLemmas.{leads-dropped, leads-trying}
 use Rattle.regress_engine_undo.specs.declared.undo.Spot.{Spot}
 use Rattle.regress_engine_undo.specs.Held.{Held, pushed}
 use Rattle.regress_engine_undo.specs.Tasks.{task, state_at}
 use Rattle.regress_engine_memory.specs.Flow.{IsFlow}
-use Rattle.regress_engine_memory.specs.Held.{ExitsFailWith, FailsIfFree, FailsWith, key_at}
+use Rattle.regress_engine_memory.specs.Held.{ExitsFailWith, FailsHere, FailsIfFree, FailsWith, key_at}
 use Rattle.regress_engine_memory.specs.Keys.{ExitsFail, Keyed}
 use Rattle.regress_engine_memory.proofs.Dropping.{leads-known}
 use Rattle.regress_engine_memory.proofs.Exits.{exits-last, exits-on, exits-same}
@@ -29,7 +29,14 @@ module _ (program : Program) (input : Input) (p : Spot) (h : Held) where
   unfolding stands_for
   trying-held = leads-trying program input (direction_of p.forward) (state_at p h) (stands_for program input (direction_of p.forward) h.stack h.loops h.groups)
 
-  -- a state of which the key is known to fail is dropped
+  -- a state is dropped that is known to fail where loops are as fresh
+  pub known-here : (keyed : Keyed) → FailsHere program input keyed p h.loops → length h.loops ≡ program.loops
+      → Leads program input 1 (task program input true p h) (task program input false p h)
+  known-here keyed (classes, fresh, known, has, begun) count =
+      leads-dropped program input (direction_of p.forward) (state_at p h) (stands_for program input (direction_of p.forward) h.stack h.loops h.groups)
+      (known h.loops h.groups count has begun)
+
+  -- or of which the key is known to fail
   pub known-held : (keyed : Keyed) → FailsWith program input keyed p h.loops → length h.loops ≡ program.loops
       → Leads program input 1 (task program input true p h) (task program input false p h)
   known-held keyed (classes, known, has) count =
@@ -41,8 +48,8 @@ pub learns-held : (v : View) → AreOfKind v.kind v.units → (program : Program
     → (n : ℕ) (r : Option Whole) → IsTried program v n r (task program (input_of v) false p (pushed (tried s.at s.offset) h))
     → FailsIfFree program (input_of v) keyed (length v.units) s h.loops
 unfolding stands_for
-learns-held v all program suits keyed closed p s h turned count n r tries calm classes free =
-    learns v all program suits keyed closed (key_at s classes) h.loops h.groups
+learns-held v all program suits keyed closed p s h turned count n r tries calm classes fresh free =
+    learns v all program suits keyed closed (key_at s classes) fresh h.loops h.groups
     (stands_for program (input_of v) (direction_of s.forward) h.stack h.loops h.groups) calm count free there.comes.0 r there.comes.2 there.reads
   where
     there : IsTried program v n r (record { dir = direction_of s.forward; states = []; work = stands_for program (input_of v) (direction_of s.forward) (tried s.at s.offset ∷ h.stack) h.loops h.groups })

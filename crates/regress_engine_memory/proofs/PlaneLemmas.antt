@@ -1,5 +1,6 @@
 -- Planes of bits: one more plane, and one more bit.
 use Rattle.std.specs.Prelude.{slice_get, slice_set}
+use Rattle.std.specs.List.{list_all}
 use Rattle.std.proofs.Common.{◌≡◌, ℕ, zero, suc, ◌+◌, ◌<◌, ◌||◌, ◌==◌, ◌⊎◌, inl, inr, Bool, true, false, List, [], ◌∷◌, ◌++◌, length, get_or, Some, refl, sym, ap, ◌∙◌, subst, arith}
 use Rattle.std.proofs.lemmas.Bool.{cases_eq, or_cases, eqb-true, true≢false}
 use Rattle.std.proofs.lemmas.Option.{slice_get_within}
@@ -10,8 +11,8 @@ use Rattle.regress_engine_insn.specs.Instructions.{Program}
 use Rattle.regress_engine_undo.specs.declared.undo.Spot.{Spot}
 use Rattle.regress_engine_memory.specs.BitViews.{has}
 use Rattle.regress_engine_memory.specs.Deciding.{Table, calm_at, flow_of, live_at}
-use Rattle.regress_engine_memory.specs.Held.{ExitsFailWith, FailsIfFree, key_at}
-use Rattle.regress_engine_memory.specs.Keys.{HaveKey}
+use Rattle.regress_engine_memory.specs.Held.{ExitsFailWith, FailsHere, FailsIfFree, FailsWith, key_at}
+use Rattle.regress_engine_memory.specs.Keys.{HaveKey, is_fresh}
 use Rattle.regress_engine_memory.specs.Planes.{FailsAsTold, FailsIn, IsPlaneOf, KnownIn, key_in}
 use Rattle.regress_engine_memory.specs.Remembered.{class_in, keyed_of}
 use Rattle.regress_engine_memory.specs.TableViews.{table_of}
@@ -92,6 +93,11 @@ module _ (program : Program) (input : Input) (t : Table) where
   pub known-there : (u : Table) (planes others : List Plane) → u ≡ t → others ≡ planes → KnownIn program input t planes → KnownIn program input u others
   known-there u planes others table same known = subst (λ x. KnownIn program input x others) (sym table) (subst (KnownIn program input t) (sym same) known)
 
+-- a test is passed by all of no numbers
+all-of_none : (test : ℕ → Bool) (ids : List ℕ) → length ids ≡ 0 → list_all test ids ≡ true
+all-of_none test [] none = refl
+all-of_none test (x ∷ ids) none = absurd (omega (arith, none))
+
 -- the key of a plane that is that of a spot
 key-of_spot : (t : Table) (s : Spot) (p : Plane) → p.at ≡ s.at → p.forward ≡ s.forward → key_in t p s.offset ≡ key_at s (class_in (live_at t s.at) p.classes.items)
 key-of_spot t s p at turned =
@@ -99,18 +105,34 @@ key-of_spot t s p at turned =
 
 -- The plane of a spot is found, and what it tells is so: then that is told of the spot, and the loops that are held have its classes.
 pub told-of_spot : (program : Program) (input : Input) (t : Table) (s : Spot) (further : Bool) (loops : List (ℕ × ℕ)) (p : Plane) → IsPlaneOf t s further loops p → FailsIn program input t p s.offset
-    → (classes : ℕ → ℕ) × FailsAsTold program input (keyed_of t) further (key_at s classes) × HaveKey (keyed_of t) (key_at s classes) loops
+    → (classes : ℕ → ℕ) × FailsAsTold program input (keyed_of t) further p.fresh.items (key_at s classes) × HaveKey (keyed_of t) (key_at s classes) loops
 told-of_spot program input t s further loops p is fails = (
   class_in (live_at t s.at) p.classes.items,
-  subst (FailsAsTold program input (keyed_of t) further) (key-of_spot t s p is.0 is.1) (subst (λ b. FailsAsTold program input (keyed_of t) b (key_in t p s.offset)) is.3 fails),
+  subst (FailsAsTold program input (keyed_of t) further p.fresh.items) (key-of_spot t s p is.0 is.1)
+      (subst (λ b. FailsAsTold program input (keyed_of t) b p.fresh.items (key_in t p s.offset)) is.3 fails),
   is.2,
 )
 
+-- Where no loop is told to be fresh there, none has an answer with whatever loops that have the classes.
+pub told-settled : (program : Program) (input : Input) (t : Table) (s : Spot) (loops : List (ℕ × ℕ)) (p : Plane) → IsPlaneOf t s false loops p → length p.fresh.items ≡ 0
+    → FailsIn program input t p s.offset → FailsWith program input (keyed_of t) s loops
+told-settled program input t s loops p is none fails =
+    let (classes, known, has) = told-of_spot program input t s false loops p is fails in
+    (classes, (λ ls gs count have. known ls gs count have (all-of_none (λ id. is_fresh (flow_of t) id s.offset (get_or ls id (0, 0))) p.fresh.items none)), has)
+
+-- And where some are, with whatever loops of which these are.
+pub told-here : (program : Program) (input : Input) (t : Table) (s : Spot) (loops : List (ℕ × ℕ)) (p : Plane) → IsPlaneOf t s false loops p
+    → FailsIn program input t p s.offset → FailsHere program input (keyed_of t) s loops
+told-here program input t s loops p is fails =
+    let (classes, known, has) = told-of_spot program input t s false loops p is fails in
+    (classes, p.fresh.items, known, has, is.4)
+
 -- And the other way round: what is told of a spot with the classes of its plane that plane tells.
 in-plane : (program : Program) (input : Input) (t : Table) (s : Spot) (further : Bool) (loops : List (ℕ × ℕ)) (p : Plane) → IsPlaneOf t s further loops p
-    → FailsAsTold program input (keyed_of t) further (key_at s (class_in (live_at t s.at) p.classes.items)) → FailsIn program input t p s.offset
+    → FailsAsTold program input (keyed_of t) further p.fresh.items (key_at s (class_in (live_at t s.at) p.classes.items)) → FailsIn program input t p s.offset
 in-plane program input t s further loops p is fails =
-    subst (λ b. FailsAsTold program input (keyed_of t) b (key_in t p s.offset)) (sym is.3) (subst (FailsAsTold program input (keyed_of t) further) (sym (key-of_spot t s p is.0 is.1)) fails)
+    subst (λ b. FailsAsTold program input (keyed_of t) b p.fresh.items (key_in t p s.offset)) (sym is.3)
+    (subst (FailsAsTold program input (keyed_of t) further p.fresh.items) (sym (key-of_spot t s p is.0 is.1)) fails)
 
 -- It is so with the table as it is now, and of the plane that stands in a place.
 pub found-fails : (program : Program) (input : Input) (old new : FlowTable) (s : Spot) (further : Bool) (loops : List (ℕ × ℕ)) (planes : List Plane) (k : ℕ) (p : Plane) → new ≡ old
@@ -124,12 +146,13 @@ found-fails program input old new s further loops planes k p table there is fail
 
 -- What fails if loops are free fails at the plane of a spot, where they are.
 pub plane-fails : (program : Program) (input : Input) (t : Table) (last : ℕ) (s : Spot) (loops : List (ℕ × ℕ)) (p : Plane) → IsPlaneOf t s false loops p → calm_at t s.at ≡ true
-    → ((id : ℕ) → holds (live_at t s.at) id ≡ true → HasMoved (flow_of t) last id (direction_of s.forward) s.offset (get_or loops id (0, 0)))
+    → ((id : ℕ) → holds (live_at t s.at) id ≡ true → holds p.fresh.items id ≡ false → HasMoved (flow_of t) last id (direction_of s.forward) s.offset (get_or loops id (0, 0)))
     → ((id : ℕ) → holds (live_at t s.at) id ≡ true → (keyed_of t).counted id ≡ false → (get_or loops id (0, 0)).0 + 1 + room last (direction_of s.forward) s.offset < (flow_of t).most id)
     → FailsIfFree program input (keyed_of t) last s loops → FailsIn program input t p s.offset
 plane-fails program input t last s loops p is calm moved more fails =
     in-plane program input t s false loops p is
-    (fails calm (class_in (live_at t s.at) p.classes.items) (record { key = λ id l. is.2 id l; moved = λ id l. moved id l; room = λ id l c. more id l c }))
+    (fails calm (class_in (live_at t s.at) p.classes.items) p.fresh.items
+    (record { key = λ id l. is.2 id l; begun = is.4; moved = λ id l e. moved id l e; room = λ id l c. more id l c }))
 
 -- that of exits is told of them all
 pub exits-fail : (program : Program) (input : Input) (t : Table) (s : Spot) (loops : List (ℕ × ℕ)) (p : Plane) → IsPlaneOf t s true loops p

@@ -1,5 +1,7 @@
 -- What is known of an address and an offset, by how many iterations have begun as far as that matters.
-use Rattle.std.specs.Prelude.{◌≡◌, ℕ, ◌+◌, ◌<◌, Bool, true, false, List, [], ◌∷◌, length, All, None, get_or, if◌then◌else◌, min}
+use Rattle.std.specs.Prelude.{◌≡◌, ℕ, ◌+◌, ◌<◌, ◌&&◌, ◌==◌, Bool, true, false, List, [], ◌∷◌, length, All, None, get_or, if◌then◌else◌, min, nat_lt}
+use Rattle.regress_meaning.specs.Text.{holds}
+use Rattle.std.specs.List.{list_all}
 use Rattle.regress_meaning.specs.Meaning.{Direction}
 use Rattle.regress_meaning.specs.Inputs.{Input}
 use Rattle.regress_engine_insn.specs.Instructions.{Instruction, Program, Stands}
@@ -30,19 +32,33 @@ pub record Key : Type 0 where
 abbrev pub HaveKey : Keyed → Key → List (ℕ × ℕ) → Type 0
 HaveKey keyed k loops = (id : ℕ) → keyed.flow.live k.at id ≡ true → class_of keyed id (get_or loops id (0, 0)).0 ≡ k.classes id
 
--- the iteration of each loop that is live may end
-abbrev pub HaveMoved : Keyed → (last : ℕ) → Key → List (ℕ × ℕ) → Type 0
-HaveMoved keyed last k loops = (id : ℕ) → keyed.flow.live k.at id ≡ true → HasMoved keyed.flow last id k.dir k.offset (get_or loops id (0, 0))
+-- A loop is fresh at an offset: its iteration that is under way has begun there and is past the least number, so that it may not end there.
+abbrev pub is_fresh : Flow → (id o : ℕ) → ℕ × ℕ → Bool
+is_fresh flow id o x = nat_lt (flow.least id) x.0 && (x.1 == o)
+
+-- each of some loops is fresh at an offset
+abbrev pub are_fresh : Flow → (o : ℕ) → List ℕ → List (ℕ × ℕ) → Bool
+are_fresh flow o ids loops = list_all (λ id. is_fresh flow id o (get_or loops id (0, 0))) ids
+
+-- they are
+abbrev pub AreFresh : Flow → (o : ℕ) → List ℕ → List (ℕ × ℕ) → Type 0
+AreFresh flow o ids loops = are_fresh flow o ids loops ≡ true
+
+-- the iteration of each loop that is live may end, but of some that may be fresh
+abbrev pub HaveMoved : Keyed → (last : ℕ) → (fresh : List ℕ) → Key → List (ℕ × ℕ) → Type 0
+HaveMoved keyed last fresh k loops = (id : ℕ) → keyed.flow.live k.at id ≡ true → holds fresh id ≡ false → HasMoved keyed.flow last id k.dir k.offset (get_or loops id (0, 0))
 
 -- of each of them that is not counted more may begin as long as there is text
 abbrev pub HaveRoom : Keyed → (last : ℕ) → Key → List (ℕ × ℕ) → Type 0
 HaveRoom keyed last k loops = (id : ℕ) → keyed.flow.live k.at id ≡ true → keyed.counted id ≡ false
     → (get_or loops id (0, 0)).0 + 1 + room last k.dir k.offset < keyed.flow.most id
 
--- Loops show that no state with a key may do more: they have its classes, may end their iterations, and begin more.
-pub record AreFree (keyed : Keyed) (last : ℕ) (k : Key) (loops : List (ℕ × ℕ)) : Type 0 where
+-- Loops show that no state with a key may do more in which some of them are fresh: they have its classes, these are fresh and the others may
+-- end their iterations, and they may begin more.
+pub record AreFree (keyed : Keyed) (last : ℕ) (fresh : List ℕ) (k : Key) (loops : List (ℕ × ℕ)) : Type 0 where
   pub key : HaveKey keyed k loops
-  pub moved : HaveMoved keyed last k loops
+  pub begun : AreFresh keyed.flow k.offset fresh loops
+  pub moved : HaveMoved keyed last fresh k loops
   pub room : HaveRoom keyed last k loops
 
 module _ (program : Program) (input : Input) where
@@ -55,6 +71,11 @@ module _ (program : Program) (input : Input) where
   abbrev pub FailsAt : Keyed → Key → Type 0
   FailsAt keyed k = (loops : List (ℕ × ℕ)) (groups : List Marks) → length loops ≡ program.loops → HaveKey keyed k loops
       → Fails program input k.dir (whole k.at k.offset loops groups ∷ [])
+
+  -- From a key no run has an answer, whatever the groups are, and whatever the loops that have its classes and of which some are fresh.
+  abbrev pub FailsWhere : Keyed → (fresh : List ℕ) → Key → Type 0
+  FailsWhere keyed fresh k = (loops : List (ℕ × ℕ)) (groups : List Marks) → length loops ≡ program.loops → HaveKey keyed k loops
+      → AreFresh keyed.flow k.offset fresh loops → Fails program input k.dir (whole k.at k.offset loops groups ∷ [])
 
   -- from each of some keys no run has an answer
   abbrev pub AllFail : Keyed → List Key → Type 0

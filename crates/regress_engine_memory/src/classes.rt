@@ -4,7 +4,7 @@ ghost use Rattle.regress_meaning.specs.Text.{holds};
 ghost use Rattle.regress_engine_input.specs.Views.{direction_of};
 ghost use Rattle.regress_engine_search.specs.StateViews.{loop_of};
 ghost use Rattle.regress_engine_memory.specs.Deciding.{flow_of, live_at};
-ghost use Rattle.regress_engine_memory.specs.Keys.{class_of};
+ghost use Rattle.regress_engine_memory.specs.Keys.{are_fresh, class_of, is_fresh};
 ghost use Rattle.regress_engine_memory.specs.Remembered.{HaveClasses, keyed_of};
 ghost use Rattle.regress_engine_memory.specs.TableViews.{table_of};
 ghost use Rattle.regress_engine_runs.specs.Runs.{room};
@@ -109,24 +109,84 @@ impl FlowTable {
         Ok(classes)
     }
 
+    /// Whether a loop is fresh at an offset: its iteration that is under way has begun there and is past the least number, so that it may
+    /// not end there.
+    #[inline]
+    fn is_fresh(&self, id: usize, counts: LoopData<usize>, offset: usize) -> bool
+        ensures { result ≡ is_fresh (flow_of (table_of self.now)) id offset (loop_of counts) }
+    {
+        counts.iters > self.bounds(id).least && counts.entry == offset
+    }
+
+    /// Whether each of some loops is fresh at an offset.
+    pub(crate) fn are_fresh(&self, ids: &[usize], loops: &[LoopData<usize>], offset: usize) -> bool
+        ensures { result ≡ are_fresh (flow_of (table_of self.now)) offset ids.now (map loop_of loops.now) }
+    {
+        ids.iter()
+            .all(|id| self.is_fresh(*id, data_of(loops, *id), offset))
+    }
+
+    /// How many of the loops that are live at a spot are fresh there.
+    #[inline]
+    pub(crate) fn count_fresh(&self, spot: &Spot, loops: &[LoopData<usize>]) -> usize {
+        let mut count = 0_usize;
+        for id in self.live(spot.at) {
+            let is_fresh = self.is_fresh(*id, data_of(loops, *id), spot.offset);
+            count = count.saturating_add(is_fresh as usize);
+        }
+        count
+    }
+
+    /// The loops that are live at a spot and fresh there. It errs where memory is refused.
+    pub(crate) fn fresh(
+        &self,
+        alloc: Global,
+        spot: &Spot,
+        loops: &[LoopData<usize>],
+    ) -> Result<Vec<usize>, AllocError> {
+        let mut fresh = Vec::new(alloc);
+        for id in self.live(spot.at) {
+            if self.is_fresh(*id, data_of(loops, *id), spot.offset) {
+                fresh.push(*id)?;
+            }
+        }
+        Ok(fresh)
+    }
+
     /// Whether the data of a loop show that no state with the same class may do more: the iteration that is under way has taken
-    /// something or is not past the least number, and if the loop is not counted, more may begin than there is text.
-    fn is_free(&self, id: usize, counts: LoopData<usize>, spot: &Spot, last: usize) -> bool
-        ensures moved { result ≡ true → HasMoved (flow_of (table_of self.now)) last id (direction_of spot.now.forward) spot.now.offset (loop_of counts) }
+    /// something or is not past the least number, if that is asked, and if the loop is not counted, more may begin than there is text.
+    fn is_free(
+        &self,
+        id: usize,
+        must_move: bool,
+        counts: LoopData<usize>,
+        spot: &Spot,
+        last: usize,
+    ) -> bool
+        ensures moved { result ≡ true → must_move ≡ true → HasMoved (flow_of (table_of self.now)) last id (direction_of spot.now.forward) spot.now.offset (loop_of counts) }
         ensures room { result ≡ true → (keyed_of (table_of self.now)).counted id ≡ false
             → counts.iters + 1 + room last (direction_of spot.now.forward) spot.now.offset < (flow_of (table_of self.now)).most id }
     {
         let bounds = self.bounds(id);
-        if counts.iters > bounds.least && !is_ahead(spot.forward, counts.entry, spot.offset) {
+        if must_move
+            && counts.iters > bounds.least
+            && !is_ahead(spot.forward, counts.entry, spot.offset)
+        {
             return false;
         }
         let left = bounds.most.saturating_sub(room_left(last, spot));
         bounds.most <= MOST_COUNTED || (left > 1 && counts.iters < left - 1)
     }
 
-    /// Whether all loops that are live at a spot show it.
-    pub(crate) fn are_free(&self, loops: &[LoopData<usize>], spot: &Spot, last: usize) -> bool
-        ensures moved { result ≡ true → (id : ℕ) → holds (live_at (table_of self.now) spot.now.at) id ≡ true
+    /// Whether all loops that are live at a spot show it, where some of them are fresh.
+    pub(crate) fn are_free(
+        &self,
+        fresh: &[usize],
+        loops: &[LoopData<usize>],
+        spot: &Spot,
+        last: usize,
+    ) -> bool
+        ensures moved { result ≡ true → (id : ℕ) → holds (live_at (table_of self.now) spot.now.at) id ≡ true → holds fresh.now id ≡ false
             → HasMoved (flow_of (table_of self.now)) last id (direction_of spot.now.forward) spot.now.offset (get_or (map loop_of loops.now) id (0, 0)) }
         ensures room { result ≡ true → (id : ℕ) → holds (live_at (table_of self.now) spot.now.at) id ≡ true
             → (keyed_of (table_of self.now)).counted id ≡ false → (get_or (map loop_of loops.now) id (0, 0)).0 + 1 + room last (direction_of spot.now.forward) spot.now.offset
@@ -134,7 +194,8 @@ impl FlowTable {
     {
         let live = self.live(spot.at);
         for k in 0..live.len() {
-            if !self.is_free(live[k], data_of(loops, live[k]), spot, last) {
+            let id = live[k];
+            if !self.is_free(id, !fresh.contains(&id), data_of(loops, id), spot, last) {
                 return false;
             }
         }

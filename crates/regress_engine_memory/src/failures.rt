@@ -4,7 +4,7 @@ ghost use Rattle.regress_meaning.specs.Inputs.{Input};
 ghost use Rattle.regress_engine_insn.specs.Instructions.{Program};
 ghost use Rattle.regress_engine_search.specs.StateViews.{loop_of};
 ghost use Rattle.regress_engine_memory.specs.BitViews.{has};
-ghost use Rattle.regress_engine_memory.specs.Held.{ExitsFailWith, FailsIfFree, FailsWith};
+ghost use Rattle.regress_engine_memory.specs.Held.{ExitsFailWith, FailsHere, FailsIfFree, FailsWith};
 ghost use Rattle.regress_engine_memory.specs.Needs.{need};
 ghost use Rattle.regress_engine_memory.specs.Planes.{AreKnown, FailsIn, IsPlaneOf};
 ghost use Rattle.regress_engine_memory.specs.Remembered.{keyed_of};
@@ -23,7 +23,7 @@ const MOST_TRIED: usize = 1024;
 const PLANE_ROOM: usize = 4;
 
 /// The planes are sorted into so many buckets.
-const BUCKETS: usize = 1 << 16;
+const BUCKETS: usize = 1 << 18;
 
 /// An address, read in a direction, with the classes of the loops that are live there, and the offsets at which it fails.
 #[derive(Debug, Drop)]
@@ -33,6 +33,8 @@ pub struct Plane {
     /// Whether it also fails behind however many further iterations of the instruction before the address.
     pub(crate) further: bool,
     pub(crate) classes: Vec<usize>,
+    /// The loops that are fresh at each of its offsets.
+    pub(crate) fresh: Vec<usize>,
     pub(crate) offsets: Bits,
     /// The next plane of the same bucket.
     pub(crate) next: Option<usize>,
@@ -97,17 +99,40 @@ impl Failures {
         }
     }
 
-    /// The plane of a spot and of the loops that are held, if there is one, of it alone or of all further iterations too.
-    fn find(&self, spot: &Spot, further: bool, loops: &[LoopData<usize>]) -> Option<usize>
-        ensures { IfSome result (λ k. (p : Plane) × (slice_get self.now.planes.items k ≡ Some p)
-            × IsPlaneOf (table_of self.now.table) spot.now further (map loop_of loops.now) p) }
-    {
-        let bucket = self.bucket(spot, further, loops);
-        let mut next = if bucket < self.heads.len() {
+    /// The first plane of a bucket.
+    fn head(&self, bucket: usize) -> Option<usize> {
+        if bucket < self.heads.len() {
             self.heads[bucket]
         } else {
             None
-        };
+        }
+    }
+
+    /// Whether a plane is that of a spot and of the loops that are held, of it alone or of all further iterations too.
+    fn is_plane(&self, plane: &Plane, spot: &Spot, further: bool, loops: &[LoopData<usize>]) -> bool
+        ensures { result ≡ true → IsPlaneOf (table_of self.now.table) spot.now further (map loop_of loops.now) plane.now }
+    {
+        plane.at == spot.at
+            && plane.forward == spot.forward
+            && plane.further == further
+            && self.table.are_fresh(&plane.fresh, loops, spot.offset)
+            && self.table.have_classes(spot.at, &plane.classes, loops)
+    }
+
+    /// The plane of a spot and of the loops that are held, if there is one, of it alone or of all further iterations too; it tells so many
+    /// of them to be fresh.
+    fn find(
+        &self,
+        spot: &Spot,
+        further: bool,
+        fresh: usize,
+        loops: &[LoopData<usize>],
+    ) -> Option<usize>
+        ensures { IfSome result (λ k. (p : Plane) × (slice_get self.now.planes.items k ≡ Some p)
+            × IsPlaneOf (table_of self.now.table) spot.now further (map loop_of loops.now) p × (length p.fresh.items ≡ fresh)) }
+    {
+        let bucket = self.bucket(spot, further, loops);
+        let mut next = self.head(bucket);
         for _ in 0..self.planes.len().min(MOST_TRIED) {
             let k = next?;
             if k >= self.planes.len() {
@@ -115,9 +140,8 @@ impl Failures {
             }
             let plane = &self.planes[k];
             if plane.at == spot.at
-                && plane.forward == spot.forward
-                && plane.further == further
-                && self.table.have_classes(spot.at, &plane.classes, loops)
+                && plane.fresh.as_slice().len() == fresh
+                && self.is_plane(plane, spot, further, loops)
             {
                 return Some(k);
             }
@@ -136,10 +160,44 @@ impl Failures {
         ensures { result ≡ true → (program : Program) → (input : Input) → AreKnown program input self.now
             → FailsWith program input (keyed_of (table_of self.now.table)) spot.now (map loop_of loops.now) }
     {
-        match self.find(spot, false, loops) {
+        match self.find(spot, false, 0, loops) {
             Some(k) => self.has(k, spot.offset),
             None => false,
         }
+    }
+
+    /// Whether it is known that no run from a spot has an answer, whatever groups are held, and whatever loops that have the classes
+    /// of these and are as fresh.
+    ///
+    /// ```rust
+    /// let known = failures.is_known_here(&spot, loops);
+    /// ```
+    pub fn is_known_here(&self, spot: &Spot, loops: &[LoopData<usize>]) -> bool
+        ensures { result ≡ true → (program : Program) → (input : Input) → AreKnown program input self.now
+            → FailsHere program input (keyed_of (table_of self.now.table)) spot.now (map loop_of loops.now) }
+    {
+        if self.table.count_fresh(spot, loops) == 0 {
+            return self.is_known(spot, loops);
+        }
+        let bucket = self.bucket(spot, false, loops);
+        let mut next = self.head(bucket);
+        for _ in 0..self.planes.len().min(MOST_TRIED) {
+            let Some(k) = next else {
+                return false;
+            };
+            if k >= self.planes.len() {
+                return false;
+            }
+            let plane = &self.planes[k];
+            if plane.at == spot.at
+                && plane.offsets.contains(spot.offset)
+                && self.is_plane(plane, spot, false, loops)
+            {
+                return true;
+            }
+            next = plane.next;
+        }
+        false
     }
 
     /// Whether it is known that no run from a spot has an answer, nor behind however many further iterations of the instruction
@@ -152,7 +210,7 @@ impl Failures {
         ensures { result ≡ true → (program : Program) → (input : Input) → AreKnown program input self.now
             → ExitsFailWith program input (keyed_of (table_of self.now.table)) spot.now (map loop_of loops.now) }
     {
-        match self.find(spot, true, loops) {
+        match self.find(spot, true, 0, loops) {
             Some(k) => self.has(k, spot.offset),
             None => false,
         }
@@ -177,11 +235,25 @@ impl Failures {
         Ok(())
     }
 
+    /// So many of the loops that are live at a spot and fresh there: all of them, or none. It errs where memory is refused.
+    fn fresh(
+        &self,
+        spot: &Spot,
+        fresh: usize,
+        loops: &[LoopData<usize>],
+    ) -> Result<Vec<usize>, AllocError> {
+        if fresh == 0 {
+            return Ok(Vec::new(self.alloc));
+        }
+        self.table.fresh(self.alloc, spot, loops)
+    }
+
     /// One more plane, of a spot and of the loops that are held, of which no bit is set. It errs where memory is refused.
     fn add(
         &mut self,
         spot: &Spot,
         further: bool,
+        fresh: usize,
         loops: &[LoopData<usize>],
     ) -> Result<Option<usize>, AllocError>
         ensures table { self.new.table ≡ self.old.table }
@@ -190,7 +262,11 @@ impl Failures {
             × IsPlaneOf (table_of self.new.table) spot.now further (map loop_of loops.now) p)) }
     {
         let classes = self.table.classes(self.alloc, spot.at, loops)?;
-        if !self.table.have_classes(spot.at, &classes, loops) {
+        let those = self.fresh(spot, fresh, loops)?;
+        if those.len() != fresh
+            || !self.table.are_fresh(&those, loops, spot.offset)
+            || !self.table.have_classes(spot.at, &classes, loops)
+        {
             return Ok(None);
         }
         let bucket = self.bucket(spot, further, loops);
@@ -202,6 +278,7 @@ impl Failures {
             forward: spot.forward,
             further,
             classes,
+            fresh: those,
             offsets: Bits::new(self.alloc),
             next,
         })?;
@@ -211,20 +288,26 @@ impl Failures {
 
     /// The plane of a spot and of the loops that are held, a new one where there is none; `None` where there is no room for one, or
     /// memory is refused.
-    fn plane_of(&mut self, spot: &Spot, further: bool, loops: &[LoopData<usize>]) -> Option<usize>
+    fn plane_of(
+        &mut self,
+        spot: &Spot,
+        further: bool,
+        fresh: usize,
+        loops: &[LoopData<usize>],
+    ) -> Option<usize>
         ensures table { self.new.table ≡ self.old.table }
         ensures known { (program : Program) → (input : Input) → AreKnown program input self.old → AreKnown program input self.new }
         ensures plane { IfSome result (λ k. (p : Plane) × (slice_get self.new.planes.items k ≡ Some p)
             × IsPlaneOf (table_of self.new.table) spot.now further (map loop_of loops.now) p) }
     {
-        if let Some(k) = self.find(spot, further, loops) {
+        if let Some(k) = self.find(spot, further, fresh, loops) {
             return Some(k);
         }
         if self.room < PLANE_ROOM {
             return None;
         }
         self.room -= PLANE_ROOM;
-        match self.add(spot, further, loops) {
+        match self.add(spot, further, fresh, loops) {
             Ok(k) => k,
             Err(_) => {
                 self.room = 0;
@@ -265,10 +348,20 @@ impl Failures {
         ensures known { (program : Program) → (input : Input) → AreKnown program input self.old
             → FailsIfFree program input (keyed_of (table_of self.old.table)) last spot.now (map loop_of loops.now) → AreKnown program input self.new }
     {
-        if !self.table.is_calm(spot.at) || !self.table.are_free(loops, spot, last) {
+        if !self.table.is_calm(spot.at) {
             return;
         }
-        if let Some(k) = self.plane_of(spot, false, loops) {
+        let fresh = self.table.count_fresh(spot, loops);
+        let Some(k) = self.plane_of(spot, false, fresh, loops) else {
+            return;
+        };
+        if k >= self.planes.len() {
+            return;
+        }
+        if self
+            .table
+            .are_free(&self.planes[k].fresh, loops, spot, last)
+        {
             self.mark(k, spot.offset);
         }
     }
@@ -284,7 +377,7 @@ impl Failures {
         ensures known { (program : Program) → (input : Input) → AreKnown program input self.old
             → ExitsFailWith program input (keyed_of (table_of self.old.table)) spot.now (map loop_of loops.now) → AreKnown program input self.new }
     {
-        if let Some(k) = self.plane_of(spot, true, loops) {
+        if let Some(k) = self.plane_of(spot, true, 0, loops) {
             self.mark(k, spot.offset);
         }
     }

@@ -16,8 +16,8 @@ ghost use Rattle.regress_engine_undo.specs.declared.undo.Spot.{Spot};
 ghost use Rattle.regress_engine_memory.specs.Agreeing.{AgreeAll, EndAlike};
 ghost use Rattle.regress_engine_memory.specs.Deciding.{Table, flow_of, is_flow};
 ghost use Rattle.regress_engine_memory.specs.Flow.{Flow, IsFlow};
-ghost use Rattle.regress_engine_memory.specs.Held.{FailsIfFree, FailsWith};
-ghost use Rattle.regress_engine_memory.specs.Keys.{AllFail, AreFree, ExitsFail, FailsAt, HaveKey, IsSteady, Key, Keyed};
+ghost use Rattle.regress_engine_memory.specs.Held.{FailsHere, FailsIfFree};
+ghost use Rattle.regress_engine_memory.specs.Keys.{AllFail, AreFree, ExitsFail, FailsAt, FailsWhere, HaveKey, IsSteady, Key, Keyed};
 ghost use Rattle.regress_engine_memory.specs.Needs.{are_needs, need};
 ghost use Rattle.regress_engine_memory.specs.Under.{AreUnder};
 
@@ -38,13 +38,13 @@ pub fn states_under_failures_fail()
         → Fails program input dir ts → IsSteady program input last dir ts → (ss : List Whole) → AreUnder flow last dir ss ts → Fails program input dir ss }
 {}
 
-/// A state has no answer, and its loops show that none with its key may do more: then none with its key has an answer, whatever
-/// groups and loops it holds.
+/// A state has no answer, and its loops show that none with its key may do more in which some of them are fresh: then none of these has
+/// an answer, whatever groups and loops it holds.
 pub fn failures_forget()
     ensures { (keyed : Keyed) → (program : Program) → (input : Input) → IsFlow keyed.flow program → (k : Key) → keyed.flow.calm k.at ≡ true
-        → (last : ℕ) → (loops : List (ℕ × ℕ)) → (groups : List Marks) → length loops ≡ program.loops → AreFree keyed last k loops
+        → (last : ℕ) → (fresh : List ℕ) → (loops : List (ℕ × ℕ)) → (groups : List Marks) → length loops ≡ program.loops → AreFree keyed last fresh k loops
         → IsSteady program input last k.dir (whole k.at k.offset loops groups ∷ []) → Fails program input k.dir (whole k.at k.offset loops groups ∷ [])
-        → FailsAt program input keyed k }
+        → FailsWhere program input keyed fresh k }
 {}
 
 /// The record of what is tried may be pushed beneath the ways of a state.
@@ -66,7 +66,7 @@ pub fn failures_are_learned()
 /// back or takes on does, where all of it is known to fail.
 pub fn known_failures_are_dropped()
     ensures state { (program : Program) → (input : Input) → (p : Spot) → (h : Held) → (keyed : Keyed)
-        → FailsWith program input keyed p h.loops → length h.loops ≡ program.loops
+        → FailsHere program input keyed p h.loops → length h.loops ≡ program.loops
         → Leads program input 1 (task program input true p h) (task program input false p h) }
     ensures exits { (program : Program) → (input : Input) → (keyed : Keyed) → (k : Key)
         → (loops : List (ℕ × ℕ)) → (groups : List Marks) → length loops ≡ program.loops → HaveKey keyed k loops

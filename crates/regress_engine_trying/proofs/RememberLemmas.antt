@@ -97,9 +97,9 @@ module _ (program : Program) (input : Input) where
       (a.0, computed-runs program input (suc a.0) dir ss a.0 None (runs (suc a.0) (omega arith) ∙ ap (λ (r : Option Whole). Some (a.0, r)) none))
 
   -- so is what is told of a key
-  told-anyway : (keyed : Keyed) (further : Bool) (k : Key) → ∥ FailsAsTold program input keyed further k ∥₁ → FailsAsTold program input keyed further k
-  told-anyway keyed false k t = λ loops groups count has. fails-anyway k.dir (whole k.at k.offset loops groups ∷ []) (∥∥₁_map t (λ x. x loops groups count has))
-  told-anyway keyed true k t = λ i here n marks j o less loops groups count has. fails-anyway _ _ (∥∥₁_map t (λ x. x i here n marks j o less loops groups count has))
+  told-anyway : (keyed : Keyed) (further : Bool) (fresh : List ℕ) (k : Key) → ∥ FailsAsTold program input keyed further fresh k ∥₁ → FailsAsTold program input keyed further fresh k
+  told-anyway keyed false fresh k t = λ loops groups count has begun. fails-anyway k.dir (whole k.at k.offset loops groups ∷ []) (∥∥₁_map t (λ x. x loops groups count has begun))
+  told-anyway keyed true fresh k t = λ i here n marks j o less loops groups count has. fails-anyway _ _ (∥∥₁_map t (λ x. x i here n marks j o less loops groups count has))
 
 -- what is remembered is so, where some proof of it is kept
 pub remembers-anyway : (w : World) {B : Type 0} (o : Option B) (of : B → Failures) → ∥ IfSome o (λ b. AreOf w (of b)) ∥₁ → IfSome o (λ b. AreOf w (of b))
@@ -107,5 +107,5 @@ remembers-anyway w None of t = tt
 remembers-anyway w (Some b) of t = record {
   tested = ∥∥₁_elim t (bool-set (is_flow (table_of (of b).table) w.program) true) (λ x. x.tested);
   needed = ∥∥₁_elim t (bool-set (are_needs (needs_of (of b).table) w.program) true) (λ x. x.needed);
-  known = λ k o p here bit. told-anyway w.program (input_of w.view) (keyed_of (table_of (of b).table)) p.further (key_in (table_of (of b).table) p o) (∥∥₁_map t (λ x. x.known k o p here bit));
+  known = λ k o p here bit. told-anyway w.program (input_of w.view) (keyed_of (table_of (of b).table)) p.further p.fresh.items (key_in (table_of (of b).table) p o) (∥∥₁_map t (λ x. x.known k o p here bit));
 }

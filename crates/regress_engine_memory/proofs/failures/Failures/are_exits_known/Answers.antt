@@ -7,6 +7,6 @@ use Rattle.regress_engine_memory.proofs.failures.Failures.are_exits_known.Goals 
 
 pub returns-in-Some : goal.returns-in-Some
 returns-in-Some c set program input known =
-    let (p, there, is) = c.in-Some.ensures in
+    let (p, there, is, none) = c.in-Some.ensures in
     let s = c.args.spot.now in
     told-of_spot program input (table_of c.args.self.now.table) s true (map loop_of c.args.loops.now) p is (known c.in-Some.k s.offset p there (sym (c.has.ensures p there) ∙ set))

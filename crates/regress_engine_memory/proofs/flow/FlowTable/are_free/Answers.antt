@@ -12,12 +12,12 @@ use Rattle.regress_engine_memory.proofs.ClassLemmas.{each-held}
 use Rattle.regress_engine_memory.proofs.flow.FlowTable.are_free.Goals as goal
 
 pub returns-clause-moved : goal.returns-clause-moved
-returns-clause-moved c e id held =
+returns-clause-moved c e id held none =
     let t : Table = table_of c.args.self.now in
-    let Moved : ℕ → Type 0 = λ i. HasMoved (flow_of t) c.args.last i (direction_of c.args.spot.now.forward) c.args.spot.now.offset (get_or (map loop_of c.args.loops.now) i (0, 0)) in
+    let Moved : ℕ → Type 0 = λ i. holds c.args.fresh.now i ≡ false → HasMoved (flow_of t) c.args.last i (direction_of c.args.spot.now.forward) c.args.spot.now.offset (get_or (map loop_of c.args.loops.now) i (0, 0)) in
     let full = c.loop-k-test.false in
     subst (λ (ids : List ℕ). holds ids id ≡ true → Moved id) c.live-live.ensures
-    (each-held Moved c.live-live.result.now (λ k less. c.loop-k.invariant.moved k (omega (arith, less, full))) id) held
+    (each-held Moved c.live-live.result.now (λ k less. c.loop-k.invariant.moved k (omega (arith, less, full))) id) held none
 
 pub returns-clause-room : goal.returns-clause-room
 returns-clause-room c e id held =
