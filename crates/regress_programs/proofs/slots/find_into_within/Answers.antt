@@ -9,7 +9,7 @@ use Rattle.regress_engine_input.specs.Views.{View, reading_of}
 use Rattle.regress_programs.specs.Counting.{Counts}
 use Rattle.regress_programs.specs.Filling.{SlotsAreAtPlaces, first_told}
 use Rattle.regress_programs.specs.Programs.{IsLaidOutFrom}
-use Rattle.regress_programs.proofs.slots.find_into.Goals as goal
+use Rattle.regress_programs.proofs.slots.find_into_within.Goals as goal
 
 pub next_into-found-requires-clause-start : goal.next_into-found-requires-clause-start
 next_into-found-requires-clause-start g c =
