@@ -5,7 +5,6 @@ use Rattle.regress_meaning.specs.Flags.{is_unicode}
 use Rattle.regress_meaning.specs.Table.{Table}
 use Rattle.regress_front_core.specs.FlagWords.{options}
 use Rattle.regress_front.specs.TableViews.{table}
-use Rattle.regress_meaning.specs.Matches.{Item}
 use Rattle.regress_meaning.specs.Offsets.{Begins}
 use Rattle.regress_front.specs.Trees.{Tree}
 use Rattle.regress_match.specs.declared.found.Match.{Match}

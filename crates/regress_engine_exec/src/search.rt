@@ -25,7 +25,7 @@ use regress_engine_search::{
     Ended, ExecutorInput, SearchContext, Shown, StepsLeft, Unbounded, fill_slots,
 };
 use regress_match::{Match, MatchProducer, Range};
-use std::alloc::{AllocError, Global};
+use std::alloc::Global;
 
 /// Finds the matches of a program in a text, and counts the steps of all its searches against a budget. It holds one state and one
 /// stack of what is to be undone, its scratch, and what it remembers of failures; it keeps these from one search to the next, and no
