@@ -1,0 +1,9 @@
+pub mod Running
+pub mod Alike
+pub mod RunsAlike
+pub mod Beyond
+pub mod FromStart
+pub mod Ranking
+pub mod AnswerLemmas
+pub mod Formulas
+pub mod ExitAnswers

@@ -1,0 +1,4 @@
+pub mod Ranks
+pub mod RankTables
+pub mod Answered
+pub mod AnswerTables
