@@ -5,7 +5,7 @@ ghost use Rattle.regress_engine_input.specs.Views.{direction_of, input_of};
 ghost use Rattle.regress_engine_insn.specs.InsnViews.{instruction};
 ghost use Rattle.regress_engine_runs.specs.Meets.{referred};
 ghost use Rattle.regress_engine_runs.specs.Runs.{advance, fields_of};
-ghost use Rattle.regress_engine_search.specs.Ready.{IsReady};
+ghost use Rattle.regress_engine_search.specs.Ready.{IsReady, is_simple};
 ghost use Rattle.regress_engine_search.specs.Search.{Suits};
 ghost use Rattle.regress_engine_search.specs.StateViews.{marks_of};
 ghost use Rattle.regress_engine_linear.specs.Answered.{again, answer_at, behind, exits_at, is_single, single_at, told_of};
@@ -139,7 +139,8 @@ impl<'a, Input: ExecutorInput> Answering<'a, Input> {
         offset: usize,
     ) -> bool
         requires suits { Suits (program_of self.now.program.now) (Input.view self.now.input) }
-        requires ready { IsReady (program_of self.now.program.now) (Input.view self.now.input) (instruction insn.now) (map marks_of self.now.groups.now) offset }
+        requires ready { is_simple (instruction insn.now) ≡ true → IsReady (program_of self.now.program.now) (Input.view self.now.input) (instruction insn.now)
+            (map marks_of self.now.groups.now) offset }
         requires room { at + 1 < 2 ^ 64 }
         requires plain { is_single (instruction insn.now) ≡ false }
         requires calm { referred (instruction insn.now) ≡ None }
@@ -200,7 +201,8 @@ impl<'a, Input: ExecutorInput> Answering<'a, Input> {
         offset: usize,
     ) -> Result<(), AllocError>
         requires suits { Suits (program_of self.now.program.now) (Input.view self.now.input) }
-        requires ready { IsReady (program_of self.now.program.now) (Input.view self.now.input) (instruction insn.now) (map marks_of self.now.groups.now) offset }
+        requires ready { is_simple (instruction insn.now) ≡ true → IsReady (program_of self.now.program.now) (Input.view self.now.input) (instruction insn.now)
+            (map marks_of self.now.groups.now) offset }
         requires room { at + 1 < 2 ^ 64 }
         requires within { at < length answers.old.offsets.items }
         requires plain { is_single (instruction insn.now) ≡ false }
