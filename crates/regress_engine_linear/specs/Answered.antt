@@ -84,3 +84,18 @@ exits_at told exits at o next = told (suc (suc at)) o || told_of exits next
 -- whether the loop has, of which one character is taken at least or none
 abbrev pub single_at : (told : ℕ → ℕ → Bool) → (exits : ℕ → Bool) → (least at o : ℕ) → (next : Option ℕ) → Bool
 single_at told exits least at o next = if nat_le least 0 then exits_at told exits at o next else told_of exits next
+
+module _ (told exits : ℕ → ℕ → Bool) (program : Program) (input : Input) (dir : Direction) where
+  -- where the instruction behind an address leads that is repeated there
+  abbrev pub next_at : (at o : ℕ) → Option ℕ
+  next_at at o = elim (slice_get program.instructions (suc at)) [ None ↦ None | Some i ↦ advance program input i dir [] o ]
+
+  -- what is worked out of an address and an offset
+  abbrev pub value_at : Instruction → (at o : ℕ) → Bool
+  value_at (code.single_loop least most greedy) at o = single_at told (exits at) least at o (next_at at o)
+  value_at i at o = answer_at told program input dir i at o
+
+  -- and of the exits of a one-character loop
+  abbrev pub exits_value_at : Instruction → (at o : ℕ) → Bool
+  exits_value_at (code.single_loop least most greedy) at o = exits_at told (exits at) at o (next_at at o)
+  exits_value_at i at o = false

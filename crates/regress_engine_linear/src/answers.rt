@@ -1,14 +1,15 @@
 //! Whether runs from the addresses of a program and the offsets of a text have an answer.
 ghost use Rattle.std.specs.Prelude.{◌≡◌, ◌+◌, ◌^◌, ◌<◌, ◌&&◌, ◌||◌, ◌==◌, ℕ, [], false, true, None, OnErr, OnOk, length, map, slice_get};
 ghost use Rattle.regress_engine_code.specs.Standing.{program_of};
-ghost use Rattle.regress_engine_input.specs.Views.{direction_of, input_of};
+ghost use Rattle.regress_engine_input.specs.Views.{direction_of, input_of, reading_of};
 ghost use Rattle.regress_engine_insn.specs.InsnViews.{instruction};
-ghost use Rattle.regress_engine_runs.specs.Meets.{referred};
+ghost use Rattle.regress_engine_insn.specs.Instructions.{Instruction, Stands};
+ghost use Rattle.regress_engine_runs.specs.Meets.{IsAtPlace, referred};
 ghost use Rattle.regress_engine_runs.specs.Runs.{advance, fields_of};
 ghost use Rattle.regress_engine_search.specs.Ready.{IsReady, is_simple};
 ghost use Rattle.regress_engine_search.specs.Search.{Suits};
 ghost use Rattle.regress_engine_search.specs.StateViews.{marks_of};
-ghost use Rattle.regress_engine_linear.specs.Answered.{again, answer_at, behind, exits_at, is_single, single_at, told_of};
+ghost use Rattle.regress_engine_linear.specs.Answered.{again, answer_at, behind, exits_at, exits_value_at, is_single, single_at, told_of, value_at};
 ghost use Rattle.regress_engine_linear.specs.AnswerTables.{exits_by, in_set, told_by};
 
 use regress_engine_advance::advance;
@@ -252,5 +253,38 @@ impl<'a, Input: ExecutorInput> Answering<'a, Input> {
         let has = answers.has_single(least, at, offset, next);
         insert_if(&mut answers.exits, exits, at, offset)?;
         insert_if(&mut answers.offsets, has, at, offset)
+    }
+
+    /// Works out an address and an offset, by the instruction that stands there. It errs where memory is refused.
+    pub(crate) fn work_at(
+        &self,
+        answers: &mut Answers,
+        forward: bool,
+        at: usize,
+        offset: usize,
+    ) -> Result<(), AllocError>
+        requires suits { Suits (program_of self.now.program.now) (Input.view self.now.input) }
+        requires groups { length self.now.groups.now ≡ (program_of self.now.program.now).groups }
+        requires place { IsAtPlace (reading_of (Input.view self.now.input)) offset }
+        requires within { at < length (program_of self.now.program.now).instructions }
+        requires count { length answers.old.offsets.items ≡ length (program_of self.now.program.now).instructions }
+        requires count_exits { length answers.old.exits.items ≡ length (program_of self.now.program.now).instructions }
+        requires calm { (i : Instruction) → Stands (program_of self.now.program.now) at i → referred i ≡ None }
+        ensures count { length answers.new.offsets.items ≡ length answers.old.offsets.items }
+        ensures count_exits { length answers.new.exits.items ≡ length answers.old.exits.items }
+        ensures told { OnOk result ((i : Instruction) → Stands (program_of self.now.program.now) at i → (a o : ℕ) → told_by answers.new a o
+            ≡ (told_by answers.old a o || (((a == at) && (offset == o)) && value_at (told_by answers.old) (exits_by answers.old) (program_of self.now.program.now)
+            (input_of (Input.view self.now.input)) (direction_of forward) i at offset))) }
+        ensures exits { OnOk result ((i : Instruction) → Stands (program_of self.now.program.now) at i → (a o : ℕ) → exits_by answers.new a o
+            ≡ (exits_by answers.old a o || (((a == at) && (offset == o)) && exits_value_at (told_by answers.old) (exits_by answers.old) (program_of self.now.program.now)
+            (input_of (Input.view self.now.input)) (direction_of forward) i at offset))) }
+    {
+        match &self.program.insns()[at] {
+            Insn::Loop1CharBody { min_iters, .. } => {
+                let body = &self.program.insns()[at + 1];
+                self.work_out_single(answers, body, *min_iters, forward, at, offset)
+            }
+            insn => self.work_out(answers, insn, forward, at, offset),
+        }
     }
 }
