@@ -4,6 +4,15 @@ use Rattle.regress_engine_memory.specs.BitViews.{has}
 use Rattle.regress_engine_memory.specs.declared.bits.Bits.{Bits}
 use Rattle.regress_engine_linear.specs.declared.answers.Answers.{Answers}
 
+-- a number is in one of some sets, if there is one
+abbrev pub in_set : Option Bits → ℕ → Bool
+in_set None n = false
+in_set (Some bits) n = has bits n
+
 -- it is told that runs from an address and an offset have an answer
 abbrev pub told_by : Answers → (at o : ℕ) → Bool
-told_by a at o = elim (slice_get a.offsets.items at) [ None ↦ false | Some b ↦ has b o ]
+told_by a at o = in_set (slice_get a.offsets.items at) o
+
+-- it is told that one of the exits of the one-character loop at an address has an answer, from an offset on
+abbrev pub exits_by : Answers → (at o : ℕ) → Bool
+exits_by a at o = in_set (slice_get a.exits.items at) o

@@ -72,10 +72,30 @@ abbrev pub is_single : Instruction → Bool
 is_single (code.single_loop least most greedy) = true
 is_single _ = false
 
--- Whether one of the exits of a one-character loop has an answer, from an offset on, by what is told there and where one more character is taken.
-abbrev pub exits_at : (told : ℕ → ℕ → Bool) → (at o : ℕ) → (next : Option ℕ) → Bool
-exits_at told at o next = told (suc (suc at)) o || behind told at next
+-- whether it is told of an offset, if there is one
+abbrev pub told_of : (ℕ → Bool) → Option ℕ → Bool
+told_of told None = false
+told_of told (Some o) = told o
+
+-- Whether one of the exits of a one-character loop has an answer, from an offset on: the one there, or one from behind one more character.
+abbrev pub exits_at : (told : ℕ → ℕ → Bool) → (exits : ℕ → Bool) → (at o : ℕ) → (next : Option ℕ) → Bool
+exits_at told exits at o next = told (suc (suc at)) o || told_of exits next
 
 -- whether the loop has, of which one character is taken at least or none
-abbrev pub single_at : (told : ℕ → ℕ → Bool) → (least at o : ℕ) → (next : Option ℕ) → Bool
-single_at told least at o next = if nat_le least 0 then exits_at told at o next else behind told at next
+abbrev pub single_at : (told : ℕ → ℕ → Bool) → (exits : ℕ → Bool) → (least at o : ℕ) → (next : Option ℕ) → Bool
+single_at told exits least at o next = if nat_le least 0 then exits_at told exits at o next else told_of exits next
+
+module _ (told exits : ℕ → ℕ → Bool) (program : Program) (input : Input) (dir : Direction) where
+  -- where the instruction behind an address leads that is repeated there
+  abbrev pub next_at : (at o : ℕ) → Option ℕ
+  next_at at o = elim (slice_get program.instructions (suc at)) [ None ↦ None | Some i ↦ advance program input i dir [] o ]
+
+  -- what is worked out of an address and an offset
+  abbrev pub value_at : Instruction → (at o : ℕ) → Bool
+  value_at (code.single_loop least most greedy) at o = single_at told (exits at) least at o (next_at at o)
+  value_at i at o = answer_at told program input dir i at o
+
+  -- and of the exits of a one-character loop
+  abbrev pub exits_value_at : Instruction → (at o : ℕ) → Bool
+  exits_value_at (code.single_loop least most greedy) at o = exits_at told (exits at) at o (next_at at o)
+  exits_value_at i at o = false

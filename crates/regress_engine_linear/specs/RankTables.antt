@@ -1,5 +1,5 @@
 -- A table of ranks, and the test that instructions lead on to what is ranked lower.
-use Rattle.std.specs.Prelude.{ℕ, suc, ◌&&◌, ◌||◌, ◌==◌, not, Bool, true, false, List, Option, Some, None, get_or, slice_get, nat_lt, nat_le}
+use Rattle.std.specs.Prelude.{◌≡◌, ◌<◌, ℕ, suc, ◌&&◌, ◌||◌, ◌==◌, not, Bool, true, false, List, Option, Some, None, get_or, slice_get, nat_lt, nat_le}
 use Rattle.regress_meaning.specs.Text.{holds}
 use Rattle.regress_front_nodes.specs.Trees.{Submatch, lookaround, atomic}
 use Rattle.regress_engine_insn.specs.Instructions.{LoopFields, Instruction, Program}
@@ -11,15 +11,16 @@ use Rattle.regress_engine_memory.specs.Passing.{all_pass}
 use Rattle.regress_engine_linear.specs.Ranks.{Ranking}
 use Rattle.regress_engine_linear.specs.declared.ranks.RankTable.{RankTable}
 
--- For each address its rank and whether it is read forward; for each loop the rank of where its body begins.
+-- For each address its rank and whether it is read forward; for each loop the rank of where its body begins; and the addresses by rank.
 pub record Heights : Type 0 where
   pub ranks : List ℕ
   pub forward : List Bool
   pub tops : List ℕ
+  pub order : List ℕ
 
 -- what a table of the code is
 abbrev pub heights_of : RankTable → Heights
-heights_of t = record { ranks = t.ranks.items; forward = t.forward.items; tops = t.tops.items }
+heights_of t = record { ranks = t.ranks.items; forward = t.forward.items; tops = t.tops.items; order = t.order.items }
 
 module _ (h : Heights) where
   -- the rank of an address
@@ -37,6 +38,10 @@ module _ (h : Heights) where
   -- what the table tells
   abbrev pub ranking_of : Ranking
   ranking_of = record { rank = rank_at; forward = forward_at; top = top_of }
+
+  -- each of so many addresses stands in the order where its rank tells
+  abbrev pub ArePlaced : (count : ℕ) → Type 0
+  ArePlaced count = (at : ℕ) → at < count → slice_get h.order (rank_at at) ≡ Some at
 
   -- from an address it is led to another by taking so much at least, or the other is ranked lower
   abbrev pub lowers : (taken from to : ℕ) → Bool

@@ -1,9 +1,9 @@
 //! How a table of ranks is made: in rounds, and then it is tested.
-ghost use Rattle.std.specs.Prelude.{◌≡◌, true, IfOk, IfSome, map};
+ghost use Rattle.std.specs.Prelude.{◌≡◌, true, IfOk, IfSome, length, map};
 ghost use Rattle.regress_engine_insn.specs.Instructions.{Program};
 ghost use Rattle.regress_engine_insn.specs.InsnViews.{instruction};
 ghost use Rattle.regress_engine_memory.specs.TableViews.{table_of};
-ghost use Rattle.regress_engine_linear.specs.RankTables.{are_ranked, heights_of};
+ghost use Rattle.regress_engine_linear.specs.RankTables.{ArePlaced, are_ranked, heights_of};
 
 use crate::ranks::RankTable;
 use regress_engine_insn::Insn;
@@ -123,6 +123,31 @@ fn suggested_ranks(
     Ok(ranks)
 }
 
+/// The addresses of a program, those first to which the instructions of others may lead without taking anything.
+fn order(alloc: Global, insns: &[Insn]) -> Result<Vec<usize>, AllocError> {
+    let mut ranks: Vec<usize> = Vec::new(alloc);
+    for _ in 0..MOST_ROUNDS {
+        ranks = suggested_ranks(alloc, insns, &ranks)?;
+    }
+    let mut order: Vec<usize> = Vec::new(alloc);
+    order.extend(0..insns.len())?;
+    order.sort_by_key(|at| above(&ranks, *at))?;
+    Ok(order)
+}
+
+/// For each of some addresses its place among them.
+fn places(alloc: Global, order: &[usize]) -> Result<Vec<usize>, AllocError> {
+    let mut places: Vec<usize> = Vec::new(alloc);
+    places.resize(order.len(), 0)?;
+    for place in 0..order.len() {
+        let at = order[place];
+        if at < places.len() {
+            places[at] = place;
+        }
+    }
+    Ok(places)
+}
+
 /// For each of so many loops the rank of where its body begins.
 fn tops(
     alloc: Global,
@@ -157,19 +182,19 @@ impl RankTable {
         flow: &FlowTable,
         loops: usize,
     ) -> Result<Option<RankTable>, AllocError>
-        ensures { IfOk result (λ found. IfSome found (λ table. (program : Program) → program.instructions ≡ map instruction insns.now
+        ensures ranked { IfOk result (λ found. IfSome found (λ table. (program : Program) → program.instructions ≡ map instruction insns.now
             → are_ranked (heights_of table) (table_of flow.now) program ≡ true)) }
+        ensures placed { IfOk result (λ found. IfSome found (λ table. ArePlaced (heights_of table) (length insns.now))) }
     {
-        let mut ranks: Vec<usize> = Vec::new(alloc);
-        for _ in 0..MOST_ROUNDS {
-            ranks = suggested_ranks(alloc, insns, &ranks)?;
-        }
+        let order = order(alloc, insns)?;
+        let ranks = places(alloc, &order)?;
         let table = RankTable {
             tops: tops(alloc, insns, &ranks, loops)?,
             forward: forward(alloc, insns)?,
             ranks,
+            order,
         };
-        if table.are_ranked(flow, insns) {
+        if table.are_placed(insns.len()) && table.are_ranked(flow, insns) {
             Ok(Some(table))
         } else {
             Ok(None)

@@ -1,10 +1,10 @@
 //! A table of ranks, and its test.
-ghost use Rattle.std.specs.Prelude.{◌≡◌, ◌+◌, ◌^◌, ◌<◌, map, slice_get};
+ghost use Rattle.std.specs.Prelude.{◌≡◌, ◌+◌, ◌^◌, ◌<◌, true, map, slice_get};
 ghost use Rattle.regress_engine_insn.specs.Instructions.{Program};
 ghost use Rattle.regress_engine_insn.specs.InsnViews.{fields, instruction};
 ghost use Rattle.regress_engine_runs.specs.Runs.{fields_of};
 ghost use Rattle.regress_engine_memory.specs.TableViews.{table_of};
-ghost use Rattle.regress_engine_linear.specs.RankTables.{are_ranked, cycles, forward_at, heights_of, is_cycle, lowers, rank_at, ranks, top_of};
+ghost use Rattle.regress_engine_linear.specs.RankTables.{ArePlaced, are_ranked, cycles, forward_at, heights_of, is_cycle, lowers, rank_at, ranks, top_of};
 
 use regress_engine_insn::{Insn, LoopFields};
 use regress_engine_memory::{FlowTable, taken_by};
@@ -12,8 +12,10 @@ use regress_engine_memory::{FlowTable, taken_by};
 /// For each address of a program its rank and whether it is read forward, and for each loop the rank of where its body begins.
 #[derive(Debug, Drop)]
 pub struct RankTable {
-    /// The rank of an address.
+    /// The rank of an address: its place in the order.
     pub(crate) ranks: Vec<usize>,
+    /// The addresses by their ranks, the lowest first.
+    pub(crate) order: Vec<usize>,
     /// Whether an address is read forward.
     pub(crate) forward: Vec<bool>,
     /// The rank of where the body of a loop begins.
@@ -118,6 +120,19 @@ impl RankTable {
     {
         for at in 0..insns.len() {
             if flow.is_calm(at) && !self.ranks(flow, insns, at, &insns[at]) {
+                return false;
+            }
+        }
+        true
+    }
+
+    /// Whether each of so many addresses stands in the order where its rank tells.
+    pub(crate) fn are_placed(&self, count: usize) -> bool
+        ensures { result ≡ true → ArePlaced (heights_of self.now) count }
+    {
+        for at in 0..count {
+            let place = self.rank(at);
+            if place >= self.order.len() || self.order[place] != at {
                 return false;
             }
         }
