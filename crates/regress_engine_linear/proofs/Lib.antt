@@ -7,3 +7,4 @@ pub mod Ranking
 pub mod AnswerLemmas
 pub mod Formulas
 pub mod ExitAnswers
+pub mod WorkLemmas

@@ -115,6 +115,16 @@ pub struct Answering<'a, Input> {
 }
 
 impl<'a, Input: ExecutorInput> Answering<'a, Input> {
+    /// The instruction at an address.
+    fn instruction(&self, at: usize) -> &Insn
+        requires { (i : Instruction) × Stands (program_of self.now.program.now) at i }
+        ensures stands { Stands (program_of self.now.program.now) at (instruction result.now) }
+        ensures room { at + 1 < 2 ^ 64 }
+    {
+        let insns = self.program.insns();
+        &insns[at]
+    }
+
     /// Whether a repetition that begins at an address goes on where runs have an answer, from where it begins or where an iteration ends.
     fn again(&self, answers: &Answers, begin: usize, offset: usize) -> bool
         requires { begin + 1 < 2 ^ 64 }
@@ -266,6 +276,7 @@ impl<'a, Input: ExecutorInput> Answering<'a, Input> {
         requires suits { Suits (program_of self.now.program.now) (Input.view self.now.input) }
         requires groups { length self.now.groups.now ≡ (program_of self.now.program.now).groups }
         requires place { IsAtPlace (reading_of (Input.view self.now.input)) offset }
+        requires stands { (i : Instruction) × Stands (program_of self.now.program.now) at i }
         requires within { at < length (program_of self.now.program.now).instructions }
         requires count { length answers.old.offsets.items ≡ length (program_of self.now.program.now).instructions }
         requires count_exits { length answers.old.exits.items ≡ length (program_of self.now.program.now).instructions }
@@ -279,12 +290,13 @@ impl<'a, Input: ExecutorInput> Answering<'a, Input> {
             ≡ (exits_by answers.old a o || (((a == at) && (offset == o)) && exits_value_at (told_by answers.old) (exits_by answers.old) (program_of self.now.program.now)
             (input_of (Input.view self.now.input)) (direction_of forward) i at offset))) }
     {
-        match &self.program.insns()[at] {
+        let insn = self.instruction(at);
+        match insn {
             Insn::Loop1CharBody { min_iters, .. } => {
-                let body = &self.program.insns()[at + 1];
+                let body = self.instruction(at + 1);
                 self.work_out_single(answers, body, *min_iters, forward, at, offset)
             }
-            insn => self.work_out(answers, insn, forward, at, offset),
+            _ => self.work_out(answers, insn, forward, at, offset),
         }
     }
 }
