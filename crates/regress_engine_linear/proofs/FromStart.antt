@@ -6,7 +6,7 @@ use Rattle.std.proofs.lemmas.List.{length-replicate}
 use Rattle.regress_meaning.specs.Meaning.{Direction, Forward}
 use Rattle.regress_front_nodes.specs.Trees.{Submatch, lookaround, atomic}
 use Rattle.regress_front_nodes.specs.TreeMeaning.{submatch_direction}
-use Rattle.regress_engine_input.specs.Views.{View, AreOfKind, input_of, reading_of}
+use Rattle.regress_engine_input.specs.Views.{View, AreOfKind, direction_of, input_of, reading_of}
 use Rattle.regress_engine_insn.specs.Instructions.{Instruction, Program, Stands}
 use Rattle.regress_engine_insn.specs.Instructions as code
 use Rattle.regress_engine_runs.specs.States.{Marks, Whole, onward, mixed, first_state}
@@ -33,8 +33,8 @@ module _ (flow : Flow) (r : Ranking) (v : View) (all : AreOfKind v.kind v.units)
   Reads dir ts = (u : Whole) (i : Instruction) → Meets program (input_of v) dir ts u → Stands program u.at i → reads_character i ≡ true → ReadsPlaces (reading_of v) i u
 
   -- at the first instruction no loop is live
-  pub running-first : flow.calm 0 ≡ true → ((id : ℕ) → flow.live 0 id ≡ true → ⊥) → (o : ℕ) → Live Forward (first_state program o)
-  running-first calm silent o = record { calm = calm; way = λ forward. refl; size = length-replicate program.loops (0, 0); loops = λ id l. absurd (silent id l) }
+  pub running-first : flow.calm 0 ≡ true → r.forward 0 ≡ true → ((id : ℕ) → flow.live 0 id ≡ true → ⊥) → (o : ℕ) → Live Forward (first_state program o)
+  running-first calm forward silent o = record { calm = calm; way = ap direction_of forward; size = length-replicate program.loops (0, 0); loops = λ id l. absurd (silent id l) }
 
   -- what follows a lookaround or an atomic group is under way, where its answer lies onward
   running-after : (dir : Direction) (kind : Submatch) (low high continuation : ℕ) (s : Whole) (q : Option Whole) → Live dir s → Stands program s.at (code.submatch kind low high continuation)

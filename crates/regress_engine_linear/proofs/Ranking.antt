@@ -1,9 +1,10 @@
 -- A table of ranks that passes its test tells what is so.
-use Rattle.std.specs.Prelude.{nat_le, nat_lt, not, slice_get}
+use Rattle.std.specs.Prelude.{if◌then◌else◌, length, nat_le, nat_lt, not, slice_get}
 use Rattle.std.proofs.Common.{◌≡◌, ℕ, suc, ◌<◌, ◌≤◌, ◌⊎◌, inl, inr, ◌&&◌, ◌||◌, ◌==◌, Bool, true, false, Option, Some, None, refl, ap, ◌∙◌, arith}
 use Rattle.std.proofs.lemmas.Bool.{and_parts, or_cases, eqb-true, ltb-true, leb-true}
 use Rattle.regress_meaning.specs.Text.{holds}
-use Rattle.regress_meaning.specs.Meaning.{Direction, Forward}
+use Rattle.regress_meaning.specs.Meaning.{Direction}
+use Rattle.regress_engine_input.specs.Views.{direction_of}
 use Rattle.regress_front_nodes.specs.Trees.{Submatch, lookaround, atomic}
 use Rattle.regress_front_nodes.specs.TreeMeaning.{submatch_direction}
 use Rattle.regress_engine_insn.specs.Instructions.{LoopFields, Instruction, Program, Stands}
@@ -12,8 +13,8 @@ use Rattle.regress_engine_runs.specs.Runs.{fields_of}
 use Rattle.regress_engine_memory.specs.Deciding.{Table, calm_at, flow_of, live_at}
 use Rattle.regress_engine_memory.specs.Needs.{taken_by}
 use Rattle.regress_engine_memory.proofs.TableLemmas.{each-passes}
-use Rattle.regress_engine_linear.specs.Ranks.{Lowers, IsCycle, Ranks, AreRanked}
-use Rattle.regress_engine_linear.specs.RankTables.{Heights, rank_at, forward_at, top_of, ranking_of, lowers, turns, is_cycle, cycles, ranks, ranks_if_calm, are_ranked}
+use Rattle.regress_engine_linear.specs.Ranks.{Lowers, Inside, IsCycle, Ranks, AreRanked}
+use Rattle.regress_engine_linear.specs.RankTables.{Heights, rank_at, forward_at, top_of, ranking_of, is_read, lowers, turns, holds_inside, is_cycle, cycles, ranks, ranks_if_calm, are_ranked}
 use Rattle.regress_engine_linear.proofs.Running.{fields-stand}
 
 -- what is not so, or another thing is, is another thing where it is so
@@ -21,16 +22,33 @@ implied : (a b : Bool) → (not a || b) ≡ true → a ≡ true → b ≡ true
 implied true b e is = e
 implied false b e is = absurd (cc is)
 
+not-so : (a : Bool) → not a ≡ true → a ≡ false
+not-so true e = absurd (cc e)
+not-so false e = refl
+
 refuted : (a : Bool) → not a ≡ true → a ≡ true → ⊥
 refuted true e is = cc e
 refuted false e is = cc is
 
+as-said : (b forward : Bool) → (if forward then b else not b) ≡ true → b ≡ forward
+as-said true true e = refl
+as-said false true e = absurd (cc e)
+as-said true false e = absurd (cc e)
+as-said false false e = refl
+
 module _ (h : Heights) (t : Table) where
+  read-so : (forward : Bool) (at : ℕ) → is_read h forward at ≡ true → (at < length h.ranks) × (forward_at h at ≡ forward)
+  read-so forward at e =
+      let both = and_parts (nat_lt at (length h.ranks)) (if forward then forward_at h at else not (forward_at h at)) e in
+      (ltb-true at (length h.ranks) both.0, as-said (forward_at h at) forward both.1)
+
   lowers-so : (taken from to : ℕ) → lowers h taken from to ≡ true → Lowers (ranking_of h) taken from to
   lowers-so taken from to e =
-      let both = and_parts (not (forward_at h to) || forward_at h from) (nat_lt 0 taken || nat_lt (rank_at h to) (rank_at h from)) e in
+      let both = and_parts (is_read h (forward_at h from) to) (nat_lt 0 taken || nat_lt (rank_at h to) (rank_at h from)) e in
+      let read = read-so (forward_at h from) to both.0 in
       record {
-        forward = implied (forward_at h to) (forward_at h from) both.0;
+        within = read.0;
+        way = read.1;
         rank = elim (or_cases (nat_lt 0 taken) (nat_lt (rank_at h to) (rank_at h from)) both.1) [
           | inl some ↦ inl (ltb-true 0 taken some)
           | inr less ↦ inr (ltb-true (rank_at h to) (rank_at h from) less)
@@ -53,10 +71,23 @@ module _ (h : Heights) (t : Table) where
         left = refuted (holds (live_at t f.exit) f.loop_id) k.1;
       }
 
-  turns-so : (kind : Submatch) (at : ℕ) → turns h kind at ≡ true → (dir : Direction) → (forward_at h at ≡ true → dir ≡ Forward) → forward_at h (suc at) ≡ true → submatch_direction kind dir ≡ Forward
-  turns-so (lookaround negated true) at e dir way is = absurd (refuted (forward_at h (suc at)) e is)
-  turns-so (lookaround negated false) at e dir way is = refl
-  turns-so atomic at e dir way is = way (implied (forward_at h (suc at)) (forward_at h at) e is)
+  turns-so : (kind : Submatch) (at : ℕ) → turns h kind at ≡ true → (suc at < length h.ranks) × (direction_of (forward_at h (suc at)) ≡ submatch_direction kind (direction_of (forward_at h at)))
+  turns-so (lookaround negated true) at e = let read = read-so false (suc at) e in (read.0, ap direction_of read.1)
+  turns-so (lookaround negated false) at e = let read = read-so true (suc at) e in (read.0, ap direction_of read.1)
+  turns-so atomic at e = let read = read-so (forward_at h at) (suc at) e in (read.0, ap direction_of read.1)
+
+  inside-so : (kind : Submatch) (at : ℕ) → holds_inside h kind at ≡ true → Inside (ranking_of h) kind at
+  inside-so kind at e =
+      let both = and_parts (turns h kind at) (nat_lt (rank_at h (suc at)) (rank_at h at) || (forward_at h at && not (forward_at h (suc at)))) e in
+      let read = turns-so kind at both.0 in
+      record {
+        within = read.0;
+        way = read.1;
+        rank = elim (or_cases (nat_lt (rank_at h (suc at)) (rank_at h at)) (forward_at h at && not (forward_at h (suc at))) both.1) [
+          | inl less ↦ inl (ltb-true (rank_at h (suc at)) (rank_at h at) less)
+          | inr turned ↦ inr (let two = and_parts (forward_at h at) (not (forward_at h (suc at))) turned in (two.0, not-so (forward_at h (suc at)) two.1))
+        ];
+      }
 
   module _ (program : Program) where
     cycles-so : (at begin : ℕ) → cycles h t at begin (fields_of (slice_get program.instructions begin)) ≡ true → Ranks (flow_of t) (ranking_of h) program at (code.loop_again begin)
@@ -76,7 +107,7 @@ module _ (h : Heights) (t : Table) where
     ranks-so at (code.loop_again begin) e = cycles-so at begin e
     ranks-so at (code.single_loop least most greedy) e = lowers-so least at (suc (suc at)) e
     ranks-so at (code.submatch kind first last continuation) e =
-        let b = and_parts (lowers h 0 at continuation) (turns h kind at) e in (lowers-so 0 at continuation b.0, turns-so kind at b.1)
+        let b = and_parts (lowers h 0 at continuation) (holds_inside h kind at) e in (lowers-so 0 at continuation b.0, inside-so kind at b.1)
     ranks-so at i e = lowers-so (taken_by i) at (suc at) e
 
     -- So it is decided by one pass over the instructions.

@@ -4,7 +4,7 @@ use Rattle.std.specs.List.{AllByRecursion}
 use Rattle.std.proofs.Common.{◌≡◌, ℕ, suc, ◌+◌, ◌<◌, ◌≤◌, ◌⊎◌, inl, inr, true, List, [], ◌∷◌, length, get_or, Option, None, Some, refl, sym, ap, ◌∙◌, subst, arith, get_or-set_same, get_or-set_other, length-set}
 use Rattle.std.proofs.lemmas.Bool.{cases_eq}
 use Rattle.regress_meaning.specs.Meaning.{Direction, Forward, Backward}
-use Rattle.regress_engine_input.specs.Views.{View, AreOfKind, input_of, reading_of}
+use Rattle.regress_engine_input.specs.Views.{View, AreOfKind, direction_of, input_of, reading_of}
 use Rattle.regress_engine_insn.specs.Instructions.{LoopFields, Instruction, Program, Stands, surplus}
 use Rattle.regress_engine_insn.specs.Instructions as code
 use Rattle.regress_engine_runs.specs.States.{Marks, Whole, onward}
@@ -81,7 +81,7 @@ module _ (flow : Flow) (r : Ranking) (program : Program) (last : ℕ) (dir : Dir
       → Running (record { at = to; offset = q; loops = s.loops; groups = groups })
   running-handed s taken to q groups running hands lowers takes = record {
     calm = hands.calm;
-    way = λ forward. running.way (lowers.forward forward);
+    way = ap direction_of lowers.way ∙ running.way;
     size = running.size;
     loops = λ id l. running-on r last dir taken s.at to s.offset q id (get_or s.loops id (0, 0)) lowers takes (running.loops id (hands.live id l));
   }
@@ -92,7 +92,7 @@ module _ (flow : Flow) (r : Ranking) (program : Program) (last : ℕ) (dir : Dir
       → Running (record s { at = to; loops = ms })
   running-written s id to ms size others running writes lowers new = record {
     calm = writes.calm;
-    way = λ forward. running.way (lowers.forward forward);
+    way = ap direction_of lowers.way ∙ running.way;
     size = size;
     loops = λ k l. by_loop k l (cases_eq k id);
   }
@@ -163,7 +163,7 @@ module _ (flow : Flow) (r : Ranking) (v : View) (all : AreOfKind v.kind v.units)
           none = let least = cycle.least in omega (arith, least)
 
       low : 0 + room last dir s.offset ≤ last
-      low = by_way dir (running.way cycle.forward)
+      low = by_way dir (sym running.way ∙ ap direction_of cycle.forward)
         where
           by_way : (d : Direction) → d ≡ Forward → 0 + room last d s.offset ≤ last
           by_way Forward e = omega arith
@@ -257,7 +257,7 @@ module _ (flow : Flow) (r : Ranking) (v : View) (all : AreOfKind v.kind v.units)
         let anew = (closed s.at (code.submatch kind low high continuation) running.calm here).0 in
         record {
           calm = anew.calm;
-          way = λ forward. (ranked s.at (code.submatch kind low high continuation) running.calm here).1 dir running.way forward;
+          way = (ranked s.at (code.submatch kind low high continuation) running.calm here).1.way ∙ ap (submatch_direction kind) running.way;
           size = running.size;
           loops = λ id l. absurd (anew.silent id l);
         }

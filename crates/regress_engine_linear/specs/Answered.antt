@@ -1,10 +1,12 @@
 -- Whether runs from an address and an offset have an answer.
-use Rattle.std.specs.Prelude.{◌≡◌, ℕ, suc, ◌&&◌, ◌||◌, Bool, true, false, List, [], ◌∷◌, Option, Some, None, is_some, not, if◌then◌else◌, slice_get, nat_le}
+use Rattle.std.specs.Prelude.{◌≡◌, ℕ, suc, length, ◌&&◌, ◌||◌, Bool, true, false, List, [], ◌∷◌, Option, Some, None, is_some, not, if◌then◌else◌, slice_get, nat_le}
 use Rattle.regress_meaning.specs.Meaning.{Direction}
 use Rattle.regress_meaning.specs.Inputs.{Input}
+use Rattle.regress_engine_input.specs.Views.{View, input_of, reading_of}
 use Rattle.regress_front_nodes.specs.Trees.{Submatch, lookaround, atomic}
-use Rattle.regress_engine_insn.specs.Instructions.{LoopFields, Instruction, Program}
+use Rattle.regress_engine_insn.specs.Instructions.{LoopFields, Instruction, Program, Stands}
 use Rattle.regress_engine_insn.specs.Instructions as code
+use Rattle.regress_engine_runs.specs.Meets.{Meets, reads_character, ReadsPlaces}
 use Rattle.regress_engine_runs.specs.Runs.{Run, advance, counted, fields_of}
 use Rattle.regress_engine_runs.specs.States.{Marks, Whole}
 use Rattle.regress_engine_runs.specs.UndoStack.{whole}
@@ -15,10 +17,15 @@ use Rattle.regress_engine_linear.specs.Ranks.{Ranking, AreRunning}
 abbrev pub Ends : Program → Input → Direction → List Whole → Bool → Type 0
 Ends program input dir ss b = (n : ℕ) × (a : Option Whole) × Run program input dir ss n a × (is_some a ≡ b)
 
--- Runs from an address and an offset end so, whatever the groups are, and whatever the loops that are under way there.
-abbrev pub IsAnswered : Flow → Ranking → Program → Input → (last : ℕ) → Direction → (at o : ℕ) → Bool → Type 0
-IsAnswered flow r program input last dir at o b = (loops : List (ℕ × ℕ)) (groups : List Marks) → AreRunning flow r program last dir (whole at o loops groups)
-    → Ends program input dir (whole at o loops groups ∷ []) b
+-- Wherever a run over some states comes to an instruction that reads characters, it reads at places.
+abbrev pub ReadsAlong : Program → View → Direction → List Whole → Type 0
+ReadsAlong program v dir ss = (u : Whole) (i : Instruction) → Meets program (input_of v) dir ss u → Stands program u.at i → reads_character i ≡ true
+    → ReadsPlaces (reading_of v) i u
+
+-- Runs from an address and an offset that read at places end so, whatever the groups are, and whatever the loops that are under way there.
+abbrev pub IsAnswered : Flow → Ranking → Program → View → Direction → (at o : ℕ) → Bool → Type 0
+IsAnswered flow r program v dir at o b = (loops : List (ℕ × ℕ)) (groups : List Marks) → AreRunning flow r program (length v.units) dir (whole at o loops groups)
+    → ReadsAlong program v dir (whole at o loops groups ∷ []) → Ends program (input_of v) dir (whole at o loops groups ∷ []) b
 
 -- one of some states stands where it is told that runs have an answer
 abbrev pub one_answers : (told : ℕ → ℕ → Bool) → List Whole → Bool

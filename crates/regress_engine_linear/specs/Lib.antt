@@ -2,3 +2,4 @@ pub mod Ranks
 pub mod RankTables
 pub mod Answered
 pub mod AnswerTables
+pub mod Filled

@@ -1,5 +1,5 @@
 -- A table of ranks, and the test that instructions lead on to what is ranked lower.
-use Rattle.std.specs.Prelude.{◌≡◌, ◌<◌, ℕ, suc, ◌&&◌, ◌||◌, ◌==◌, not, Bool, true, false, List, Option, Some, None, get_or, slice_get, nat_lt, nat_le}
+use Rattle.std.specs.Prelude.{◌≡◌, ◌<◌, ℕ, suc, ◌&&◌, ◌||◌, ◌==◌, not, Bool, true, false, List, Option, Some, None, if◌then◌else◌, length, get_or, slice_get, nat_lt, nat_le}
 use Rattle.regress_meaning.specs.Text.{holds}
 use Rattle.regress_front_nodes.specs.Trees.{Submatch, lookaround, atomic}
 use Rattle.regress_engine_insn.specs.Instructions.{LoopFields, Instruction, Program}
@@ -37,20 +37,28 @@ module _ (h : Heights) where
 
   -- what the table tells
   abbrev pub ranking_of : Ranking
-  ranking_of = record { rank = rank_at; forward = forward_at; top = top_of }
+  ranking_of = record { count = length h.ranks; rank = rank_at; forward = forward_at; top = top_of }
 
   -- each of so many addresses stands in the order where its rank tells
   abbrev pub ArePlaced : (count : ℕ) → Type 0
   ArePlaced count = (at : ℕ) → at < count → slice_get h.order (rank_at at) ≡ Some at
 
+  -- an address is there and is read so
+  abbrev pub is_read : (forward : Bool) → ℕ → Bool
+  is_read forward at = nat_lt at (length h.ranks) && (if forward then forward_at at else not (forward_at at))
+
   -- from an address it is led to another by taking so much at least, or the other is ranked lower
   abbrev pub lowers : (taken from to : ℕ) → Bool
-  lowers taken from to = (not (forward_at to) || forward_at from) && (nat_lt 0 taken || nat_lt (rank_at to) (rank_at from))
+  lowers taken from to = is_read (forward_at from) to && (nat_lt 0 taken || nat_lt (rank_at to) (rank_at from))
 
-  -- the contents of a lookaround or an atomic group are read forward only where that is so
+  -- the contents of a lookaround or an atomic group are read as its kind says
   abbrev pub turns : Submatch → (at : ℕ) → Bool
-  turns (lookaround negated backward) at = not backward || not (forward_at (suc at))
-  turns atomic at = not (forward_at (suc at)) || forward_at at
+  turns (lookaround negated backward) at = is_read (not backward) (suc at)
+  turns atomic at = is_read (forward_at at) (suc at)
+
+  -- they are ranked lower, or read backward there alone
+  abbrev pub holds_inside : Submatch → (at : ℕ) → Bool
+  holds_inside kind at = turns kind at && (nat_lt (rank_at (suc at)) (rank_at at) || (forward_at at && not (forward_at (suc at))))
 
   module _ (t : Table) where
     -- a repetition that begins at an address goes on from another
@@ -73,7 +81,7 @@ module _ (h : Heights) where
     ranks program at (code.enter_loop f) = is_cycle at at f
     ranks program at (code.loop_again begin) = cycles at begin (fields_of (slice_get program.instructions begin))
     ranks program at (code.single_loop least most greedy) = lowers least at (suc (suc at))
-    ranks program at (code.submatch kind first last continuation) = lowers 0 at continuation && turns kind at
+    ranks program at (code.submatch kind first last continuation) = lowers 0 at continuation && holds_inside kind at
     ranks program at i = lowers (taken_by i) at (suc at)
 
     -- it does where its address is calm

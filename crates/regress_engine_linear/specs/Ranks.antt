@@ -1,8 +1,10 @@
 -- Programs of which no run comes back to an address without taking something, so that it visits each address and offset once.
-use Rattle.std.specs.Prelude.{◌≡◌, ℕ, suc, ◌+◌, ◌<◌, ◌≤◌, ◌⊎◌, Bool, true, List, [], ◌∷◌, length, get_or}
-use Rattle.regress_meaning.specs.Meaning.{Direction, Forward}
+use Rattle.std.specs.Prelude.{◌≡◌, ℕ, suc, ◌+◌, ◌<◌, ◌≤◌, ◌⊎◌, Bool, true, false, List, [], ◌∷◌, length, get_or}
+use Rattle.regress_meaning.specs.Meaning.{Direction}
 use Rattle.regress_meaning.specs.Inputs.{Input}
+use Rattle.regress_front_nodes.specs.Trees.{Submatch}
 use Rattle.regress_front_nodes.specs.TreeMeaning.{submatch_direction}
+use Rattle.regress_engine_input.specs.Views.{direction_of}
 use Rattle.regress_engine_insn.specs.Instructions.{LoopFields, Instruction, Program, Stands}
 use Rattle.regress_engine_insn.specs.Instructions as code
 use Rattle.regress_engine_runs.specs.Runs.{room}
@@ -12,16 +14,25 @@ use Rattle.regress_engine_memory.specs.Flow.{Flow}
 use Rattle.regress_engine_memory.specs.Needs.{taken_by}
 use Rattle.regress_engine_memory.specs.Under.{IsFurther}
 
--- For each address a rank, and whether it is read forward; for each loop the rank of where its body begins.
+-- For each of so many addresses a rank, and whether it is read forward; for each loop the rank of where its body begins.
 pub record Ranking : Type 0 where
+  pub count : ℕ
   pub rank : ℕ → ℕ
   pub forward : ℕ → Bool
   pub top : ℕ → ℕ
 
 -- From an address it is led to another by taking at least so much: something, or the other is ranked lower. It is read as the first is.
 pub record Lowers (r : Ranking) (taken from to : ℕ) : Type 0 where
-  pub forward : r.forward to ≡ true → r.forward from ≡ true
+  pub within : to < r.count
+  pub way : r.forward to ≡ r.forward from
   pub rank : (1 ≤ taken) ⊎ (r.rank to < r.rank from)
+
+-- The contents of a lookaround or an atomic group are read as their kind says, and are ranked lower than where they stand; or they are read
+-- backward there alone.
+pub record Inside (r : Ranking) (kind : Submatch) (at : ℕ) : Type 0 where
+  pub within : suc at < r.count
+  pub way : direction_of (r.forward (suc at)) ≡ submatch_direction kind (direction_of (r.forward at))
+  pub rank : (r.rank (suc at) < r.rank at) ⊎ ((r.forward at ≡ true) × (r.forward (suc at) ≡ false))
 
 -- A repetition that begins at an address goes on from another: it is read forward, its body begins with its rank, and behind it its loop is
 -- not live.
@@ -43,8 +54,7 @@ Ranks flow r program at (code.alt a) = Lowers r 0 at (suc at) × Lowers r 0 at a
 Ranks flow r program at (code.enter_loop f) = IsCycle flow r at at f
 Ranks flow r program at (code.loop_again begin) = (f : LoopFields) × Stands program begin (code.enter_loop f) × IsCycle flow r at begin f
 Ranks flow r program at (code.single_loop least most greedy) = Lowers r least at (suc (suc at))
-Ranks flow r program at (code.submatch kind first last continuation) = Lowers r 0 at continuation
-    × ((dir : Direction) → (r.forward at ≡ true → dir ≡ Forward) → r.forward (suc at) ≡ true → submatch_direction kind dir ≡ Forward)
+Ranks flow r program at (code.submatch kind first last continuation) = Lowers r 0 at continuation × Inside r kind at
 Ranks flow r program at i = Lowers r (taken_by i) at (suc at)
 
 -- Each instruction at a calm address does.
@@ -64,7 +74,7 @@ pub record IsRunning (r : Ranking) (last : ℕ) (dir : Direction) (at o id : ℕ
 -- The loops that are live in a state are under way.
 pub record AreRunning (flow : Flow) (r : Ranking) (program : Program) (last : ℕ) (dir : Direction) (s : Whole) : Type 0 where
   pub calm : flow.calm s.at ≡ true
-  pub way : r.forward s.at ≡ true → dir ≡ Forward
+  pub way : direction_of (r.forward s.at) ≡ dir
   pub size : length s.loops ≡ program.loops
   pub loops : (id : ℕ) → flow.live s.at id ≡ true → IsRunning r last dir s.at s.offset id (get_or s.loops id (0, 0))
 

@@ -51,9 +51,8 @@ pub fn running_failures_forget()
 pub fn answers_are_told_by_those_ahead()
     ensures { (flow : Flow) → (r : Ranking) → (v : View) → AreOfKind v.kind v.units → (program : Program) → Suits program v → IsFlow flow program → AreRanked flow r program
         → (dir : Direction) → (told : ℕ → ℕ → Bool) → (at o : ℕ) → (i : Instruction) → (b : Bool) → Stands program at i → is_plain i ≡ true
-        → ((s : Whole) → s.at ≡ at → s.offset ≡ o → reads_character i ≡ true → ReadsPlaces (reading_of v) i s)
         → ((loops : List (ℕ × ℕ)) → (groups : List Marks) → AreRunning flow r program (length v.units) dir (whole at o loops groups)
-        → AllByRecursion (λ u. IsAnswered flow r program (input_of v) (length v.units) dir u.at u.offset (told u.at u.offset)) (successors program (input_of v) i dir (whole at o loops groups))
+        → AllByRecursion (λ u. IsAnswered flow r program v dir u.at u.offset (told u.at u.offset)) (successors program (input_of v) i dir (whole at o loops groups))
         × (one_answers told (successors program (input_of v) i dir (whole at o loops groups)) ≡ b))
-        → IsAnswered flow r program (input_of v) (length v.units) dir at o b }
+        → IsAnswered flow r program v dir at o b }
 {}

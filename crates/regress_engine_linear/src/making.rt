@@ -101,7 +101,7 @@ fn suggested_rank(insns: &[Insn], ranks: &[usize], before: &[usize], at: usize) 
         Insn::Loop1CharBody { .. } => 0,
         Insn::Lookahead { continuation, .. }
         | Insn::Lookbehind { continuation, .. }
-        | Insn::Atomic { continuation, .. } => above(ranks, *continuation as usize),
+        | Insn::Atomic { continuation, .. } => next.max(above(ranks, *continuation as usize)),
         _ => { if taken_by(insn) > 0 { 0 } else { next } }
     }
 }

@@ -1,10 +1,10 @@
 //! A table of ranks, and its test.
-ghost use Rattle.std.specs.Prelude.{◌≡◌, ◌+◌, ◌^◌, ◌<◌, true, map, slice_get};
+ghost use Rattle.std.specs.Prelude.{◌≡◌, ◌+◌, ◌^◌, ◌<◌, ◌&&◌, ◌||◌, not, nat_lt, true, map, slice_get};
 ghost use Rattle.regress_engine_insn.specs.Instructions.{Program};
 ghost use Rattle.regress_engine_insn.specs.InsnViews.{fields, instruction};
 ghost use Rattle.regress_engine_runs.specs.Runs.{fields_of};
 ghost use Rattle.regress_engine_memory.specs.TableViews.{table_of};
-ghost use Rattle.regress_engine_linear.specs.RankTables.{ArePlaced, are_ranked, cycles, forward_at, heights_of, is_cycle, lowers, rank_at, ranks, top_of};
+ghost use Rattle.regress_engine_linear.specs.RankTables.{ArePlaced, are_ranked, cycles, forward_at, heights_of, is_cycle, is_read, lowers, rank_at, ranks, top_of};
 
 use regress_engine_insn::{Insn, LoopFields};
 use regress_engine_memory::{FlowTable, taken_by};
@@ -52,12 +52,33 @@ impl RankTable {
         }
     }
 
+    /// Whether an address is there and is read forward, or backward.
+    fn is_read(&self, forward: bool, at: usize) -> bool
+        ensures { result ≡ is_read (heights_of self.now) forward at }
+    {
+        at < self.ranks.len()
+            && if forward {
+                self.is_forward(at)
+            } else {
+                !self.is_forward(at)
+            }
+    }
+
     /// Whether it may be led from an address to another by taking so much at least: something is taken, or the other is ranked lower.
     fn lowers(&self, taken: usize, from: usize, to: usize) -> bool
         ensures { result ≡ lowers (heights_of self.now) taken from to }
     {
-        (!self.is_forward(to) || self.is_forward(from))
+        self.is_read(self.is_forward(from), to)
             && (taken > 0 || self.rank(to) < self.rank(from))
+    }
+
+    /// Whether the contents behind an address are ranked lower, or read backward there alone.
+    fn is_inside(&self, at: usize) -> bool
+        requires { at + 1 < 2 ^ 64 }
+        ensures { result ≡ (nat_lt (rank_at (heights_of self.now) (at + 1)) (rank_at (heights_of self.now) at)
+            || (forward_at (heights_of self.now) at && not (forward_at (heights_of self.now) (at + 1)))) }
+    {
+        self.rank(at + 1) < self.rank(at) || (self.is_forward(at) && !self.is_forward(at + 1))
     }
 
     /// Whether a repetition that begins at an address may go on from another.
@@ -102,13 +123,17 @@ impl RankTable {
             Insn::EnterLoop(repetition) => self.is_cycle(flow, at, at, repetition),
             Insn::LoopAgain { begin } => self.cycles(flow, insns, at, *begin as usize),
             Insn::Loop1CharBody { min_iters, .. } => self.lowers(*min_iters, at, at + 2),
-            Insn::Lookahead { continuation, .. } => self.lowers(0, at, *continuation as usize),
+            Insn::Lookahead { continuation, .. } => {
+                self.lowers(0, at, *continuation as usize)
+                    && (self.is_read(true, at + 1) && self.is_inside(at))
+            }
             Insn::Lookbehind { continuation, .. } => {
-                self.lowers(0, at, *continuation as usize) && !self.is_forward(at + 1)
+                self.lowers(0, at, *continuation as usize)
+                    && (self.is_read(false, at + 1) && self.is_inside(at))
             }
             Insn::Atomic { continuation, .. } => {
                 self.lowers(0, at, *continuation as usize)
-                    && (!self.is_forward(at + 1) || self.is_forward(at))
+                    && (self.is_read(self.is_forward(at), at + 1) && self.is_inside(at))
             }
             _ => self.lowers(taken_by(insn), at, at + 1),
         }
