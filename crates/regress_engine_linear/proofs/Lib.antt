@@ -8,3 +8,5 @@ pub mod AnswerLemmas
 pub mod Formulas
 pub mod ExitAnswers
 pub mod WorkLemmas
+pub mod Within
+pub mod FillLemmas
