@@ -10,3 +10,4 @@ pub mod ExitAnswers
 pub mod WorkLemmas
 pub mod Within
 pub mod FillLemmas
+pub mod NextPlaces

@@ -85,7 +85,7 @@ module _ (v : View) (all : AreOfKind v.kind v.units) (program : Program) (suits 
 
   -- the exits of a one-character loop
   module _ (groups : List Marks) (at : ℕ) (i : Instruction) (there : Stands program (at - 1) i) where
-    Lies : ℕ → Type 0
+    abbrev Lies : ℕ → Type 0
     Lies q = q ≤ last
 
     body-lies : (o : ℕ) → IsBody program v at o → o ≤ last
@@ -93,7 +93,6 @@ module _ (v : View) (all : AreOfKind v.kind v.units) (program : Program) (suits 
 
     ones-lie : (n o : ℕ) → IsBody program v at o → All Lies (one_by_one program (input_of v) n i dir groups o)
     unfolding one_by_one
-    unfolding Lies
     ones-lie zero o body = All-cons Lies o [] (body-lies o body) (All-nil Lies)
     ones-lie (suc n) o body = by_value (advance program (input_of v) i dir groups o) refl (ones-lie n)
       where
@@ -128,7 +127,6 @@ module _ (v : View) (all : AreOfKind v.kind v.units) (program : Program) (suits 
 
   single-lies : (s : Whole) (least most : ℕ) (greedy : Bool) → Stands program s.at (code.single_loop least most greedy) → IsAtPlace (reading_of v) s.offset
       → AllByRecursion In (successors program (input_of v) (code.single_loop least most greedy) dir s)
-  unfolding Lies
   single-lies s least most greedy here place =
       let (i, stands, takes, order) = suits.closed s.at (code.single_loop least most greedy) here in
       let before : suc s.at ≡ suc (suc s.at) - 1 = omega arith in

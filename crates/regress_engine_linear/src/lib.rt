@@ -2,6 +2,7 @@
 #![tactic(auto)]
 
 mod answers;
+mod filling;
 mod laws;
 mod making;
 mod ranks;

@@ -24,7 +24,7 @@ pub struct RankTable {
 
 impl RankTable {
     /// The rank of an address.
-    fn rank(&self, at: usize) -> usize
+    pub(crate) fn rank(&self, at: usize) -> usize
         ensures { result ≡ rank_at (heights_of self.now) at }
     {
         if at < self.ranks.len() {
@@ -53,7 +53,7 @@ impl RankTable {
     }
 
     /// Whether an address is there and is read forward, or backward.
-    fn is_read(&self, forward: bool, at: usize) -> bool
+    pub(crate) fn is_read(&self, forward: bool, at: usize) -> bool
         ensures { result ≡ is_read (heights_of self.now) forward at }
     {
         at < self.ranks.len()
