@@ -11,3 +11,4 @@ pub mod WorkLemmas
 pub mod Within
 pub mod FillLemmas
 pub mod NextPlaces
+pub mod DecidingLinear

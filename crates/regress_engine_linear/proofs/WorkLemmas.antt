@@ -27,10 +27,11 @@ reads-there v i s calm place = (place, by_group (referred i) calm)
     by_group None e = tt
     by_group (Some k) e = absurd (cc e)
 
-module _ (v : View) (program : Program) (suits : Suits program v) (groups : List Marks) (count : length groups ≡ program.groups) (o : ℕ) (place : IsAtPlace (reading_of v) o) where
-  -- an instruction that is simple may be asked where it stands
-  pub ready-there : (at : ℕ) (i : Instruction) → Stands program at i → referred i ≡ None → is_simple i ≡ true → IsReady program v i groups o
-  ready-there at i here calm simple = simple-ready program v suits i (whole at o [] groups) here simple count (λ reads. reads-there v i (whole at o [] groups) calm place)
+module _ (v : View) (program : Program) (suits : Suits program v) (groups : List Marks) (count : length groups ≡ program.groups) (o : ℕ) where
+  -- an instruction that is simple may be asked where it stands, at a place if it reads characters
+  pub ready-there : (at : ℕ) (i : Instruction) → (reads_character i ≡ true → IsAtPlace (reading_of v) o) → Stands program at i → referred i ≡ None → is_simple i ≡ true
+      → IsReady program v i groups o
+  ready-there at i place here calm simple = simple-ready program v suits i (whole at o [] groups) here simple count (λ reads. reads-there v i (whole at o [] groups) calm (place reads))
 
 -- of a one-character loop
 module _ (v : View) (program : Program) (suits : Suits program v) (at least most : ℕ) (greedy : Bool) (here : Stands program at (code.single_loop least most greedy)) where

@@ -4,3 +4,5 @@ pub mod Answered
 pub mod AnswerTables
 pub mod Filled
 pub mod Linear
+pub mod LinearTests
+pub mod LinearViews

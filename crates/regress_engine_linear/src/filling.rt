@@ -1,22 +1,24 @@
 //! How a table of answers is filled: offset by offset, and at each offset by rank.
-ghost use Rattle.std.specs.Prelude.{◌≡◌, ℕ, ◌+◌, ◌-◌, ◌^◌, ◌<◌, ◌≤◌, ⊥, suc, false, true, OnOk, length};
+ghost use Rattle.std.specs.Prelude.{◌≡◌, ℕ, ◌+◌, ◌-◌, ◌^◌, ◌<◌, ◌≤◌, suc, false, true, IfOk, OnOk, length, slice_get};
 ghost use Rattle.regress_engine_code.specs.Standing.{program_of};
 ghost use Rattle.regress_engine_input.specs.Views.{direction_of, reading_of};
 ghost use Rattle.regress_engine_insn.specs.InsnViews.{instruction};
 ghost use Rattle.regress_engine_runs.specs.Meets.{IsAtPlace, reads_character};
-ghost use Rattle.regress_engine_memory.specs.Flow.{Flow};
 ghost use Rattle.regress_engine_search.specs.Search.{Suits};
-ghost use Rattle.regress_engine_linear.specs.AnswerTables.{IsSized, exits_by, told_by};
+ghost use Rattle.regress_engine_linear.specs.AnswerTables.{IsSized, exits_by, in_set, told_by};
 ghost use Rattle.regress_engine_linear.specs.Filled.{AreRight, IsAwaited, IsBehind, IsDue, IsFilled, IsNextPlace, offset_of};
 ghost use Rattle.regress_engine_linear.specs.Linear.{IsLinear};
+ghost use Rattle.regress_engine_linear.specs.LinearViews.{flow_in, heights_in};
 ghost use Rattle.regress_engine_linear.specs.RankTables.{heights_of};
 
 use crate::answers::{Answering, Answers};
 use crate::ranks::RankTable;
+use crate::testing::LinearTable;
 use regress_engine_advance::beside;
 use regress_engine_insn::Insn;
+use regress_engine_memory::Bits;
 use regress_engine_search::ExecutorInput;
-use std::alloc::AllocError;
+use std::alloc::{AllocError, Global};
 
 /// Whether an instruction reads the characters beside the offset where it stands.
 fn reads_character(insn: &Insn) -> bool
@@ -42,6 +44,33 @@ fn reads_character(insn: &Insn) -> bool
     }
 }
 
+/// As many empty sets.
+fn empty_sets(alloc: Global, count: usize) -> Result<Vec<Bits>, AllocError>
+    ensures count { IfOk result (λ sets. length sets.items ≡ count) }
+    ensures empty { IfOk result (λ sets. (k n : ℕ) → in_set (slice_get sets.items k) n ≡ false) }
+{
+    let mut sets: Vec<Bits> = Vec::new(alloc);
+    for _ in 0..count {
+        sets.push(Bits::new(alloc))?;
+    }
+    Ok(sets)
+}
+
+impl Answers {
+    /// A table for so many addresses that tells of no answer yet.
+    fn empty(alloc: Global, count: usize) -> Result<Answers, AllocError>
+        ensures offsets { IfOk result (λ answers. length answers.offsets.items ≡ count) }
+        ensures exits { IfOk result (λ answers. length answers.exits.items ≡ count) }
+        ensures none { IfOk result (λ answers. (at o : ℕ) → told_by answers at o ≡ false) }
+        ensures none_behind { IfOk result (λ answers. (at o : ℕ) → exits_by answers at o ≡ false) }
+    {
+        Ok(Answers {
+            offsets: empty_sets(alloc, count)?,
+            exits: empty_sets(alloc, count)?,
+        })
+    }
+}
+
 impl RankTable {
     /// Whether an address is there, has a rank, and is read forward, or backward.
     fn is_due(&self, forward: bool, rank: usize, at: usize) -> bool
@@ -57,29 +86,28 @@ impl<'a, Input: ExecutorInput> Answering<'a, Input> {
     /// it elsewhere.
     fn fill_at(
         &self,
-        ranks: &RankTable,
+        table: &LinearTable,
         answers: &mut Answers,
         forward: bool,
         is_place: bool,
         rank: usize,
         offset: usize,
     ) -> Result<(), AllocError>
-        ghost flow: { Flow }
         requires suits { Suits (program_of self.now.program.now) (Input.view self.now.input) }
         requires groups { length self.now.groups.now ≡ (program_of self.now.program.now).groups }
-        requires linear { IsLinear flow (heights_of ranks.now) (program_of self.now.program.now) }
+        requires linear { IsLinear (flow_in table.now) (heights_in table.now) (program_of self.now.program.now) }
         requires short { suc (length (Input.view self.now.input).units) < 2 ^ 64 - 1 }
-        requires within { rank < length ranks.now.order.items }
+        requires within { rank < length (heights_in table.now).order }
         requires lies { offset ≤ length (Input.view self.now.input).units }
         requires place { is_place ≡ true → IsAtPlace (reading_of (Input.view self.now.input)) offset }
         requires apart { is_place ≡ false → IsAtPlace (reading_of (Input.view self.now.input)) offset → ⊥ }
         requires sized { IsSized (program_of self.now.program.now) answers.old }
-        requires filled { IsFilled flow (heights_of ranks.now) (program_of self.now.program.now) (Input.view self.now.input) answers.old forward rank offset }
+        requires filled { IsFilled (flow_in table.now) (heights_in table.now) (program_of self.now.program.now) (Input.view self.now.input) answers.old forward rank offset }
         ensures sized { OnOk result (IsSized (program_of self.now.program.now) answers.new) }
-        ensures filled { OnOk result (IsFilled flow (heights_of ranks.now) (program_of self.now.program.now) (Input.view self.now.input) answers.new forward (suc rank) offset) }
+        ensures filled { OnOk result (IsFilled (flow_in table.now) (heights_in table.now) (program_of self.now.program.now) (Input.view self.now.input) answers.new forward (suc rank) offset) }
     {
-        let at = ranks.order[rank];
-        if !ranks.is_due(forward, rank, at) {
+        let at = table.ranks.order[rank];
+        if !table.ranks.is_due(forward, rank, at) {
             return Ok(());
         }
         if !is_place && reads_character(self.instruction(at)) {
@@ -91,28 +119,27 @@ impl<'a, Input: ExecutorInput> Answering<'a, Input> {
     /// Works out all addresses that are read so at an offset, the lowest rank first.
     fn fill_offset(
         &self,
-        ranks: &RankTable,
+        table: &LinearTable,
         answers: &mut Answers,
         forward: bool,
         is_place: bool,
         offset: usize,
     ) -> Result<(), AllocError>
-        ghost flow: { Flow }
         requires suits { Suits (program_of self.now.program.now) (Input.view self.now.input) }
         requires groups { length self.now.groups.now ≡ (program_of self.now.program.now).groups }
-        requires linear { IsLinear flow (heights_of ranks.now) (program_of self.now.program.now) }
+        requires linear { IsLinear (flow_in table.now) (heights_in table.now) (program_of self.now.program.now) }
         requires short { suc (length (Input.view self.now.input).units) < 2 ^ 64 - 1 }
         requires lies { offset ≤ length (Input.view self.now.input).units }
         requires place { is_place ≡ true → IsAtPlace (reading_of (Input.view self.now.input)) offset }
         requires apart { is_place ≡ false → IsAtPlace (reading_of (Input.view self.now.input)) offset → ⊥ }
         requires sized { IsSized (program_of self.now.program.now) answers.old }
-        requires filled { IsFilled flow (heights_of ranks.now) (program_of self.now.program.now) (Input.view self.now.input) answers.old forward 0 offset }
+        requires filled { IsFilled (flow_in table.now) (heights_in table.now) (program_of self.now.program.now) (Input.view self.now.input) answers.old forward 0 offset }
         ensures sized { OnOk result (IsSized (program_of self.now.program.now) answers.new) }
-        ensures filled { OnOk result (IsFilled flow (heights_of ranks.now) (program_of self.now.program.now) (Input.view self.now.input) answers.new forward
-            (length ranks.now.order.items) offset) }
+        ensures filled { OnOk result (IsFilled (flow_in table.now) (heights_in table.now) (program_of self.now.program.now) (Input.view self.now.input) answers.new forward
+            (length (heights_in table.now).order) offset) }
     {
-        for rank in 0..ranks.order.len() {
-            self.fill_at(ranks, answers, forward, is_place, rank, offset)?;
+        for rank in 0..table.ranks.order.len() {
+            self.fill_at(table, answers, forward, is_place, rank, offset)?;
         }
         Ok(())
     }
@@ -131,29 +158,28 @@ impl<'a, Input: ExecutorInput> Answering<'a, Input> {
     /// Works out all addresses that are read so at an offset, where `place` is the next place to come, and makes it the one behind.
     fn fill_next(
         &self,
-        ranks: &RankTable,
+        table: &LinearTable,
         answers: &mut Answers,
         forward: bool,
         offset: usize,
         place: &mut usize,
     ) -> Result<(), AllocError>
-        ghost flow: { Flow }
         requires suits { Suits (program_of self.now.program.now) (Input.view self.now.input) }
         requires groups { length self.now.groups.now ≡ (program_of self.now.program.now).groups }
-        requires linear { IsLinear flow (heights_of ranks.now) (program_of self.now.program.now) }
+        requires linear { IsLinear (flow_in table.now) (heights_in table.now) (program_of self.now.program.now) }
         requires short { suc (length (Input.view self.now.input).units) < 2 ^ 64 - 1 }
         requires lies { offset ≤ length (Input.view self.now.input).units }
         requires awaited { IsAwaited (Input.view self.now.input) (direction_of forward) offset place.old }
         requires sized { IsSized (program_of self.now.program.now) answers.old }
-        requires filled { IsFilled flow (heights_of ranks.now) (program_of self.now.program.now) (Input.view self.now.input) answers.old forward 0 offset }
+        requires filled { IsFilled (flow_in table.now) (heights_in table.now) (program_of self.now.program.now) (Input.view self.now.input) answers.old forward 0 offset }
         ensures sized { OnOk result (IsSized (program_of self.now.program.now) answers.new) }
-        ensures filled { OnOk result (IsFilled flow (heights_of ranks.now) (program_of self.now.program.now) (Input.view self.now.input) answers.new forward
-            (length ranks.now.order.items) offset) }
+        ensures filled { OnOk result (IsFilled (flow_in table.now) (heights_in table.now) (program_of self.now.program.now) (Input.view self.now.input) answers.new forward
+            (length (heights_in table.now).order) offset) }
         ensures awaited { OnOk result ((q : ℕ) → q ≤ length (Input.view self.now.input).units → IsBehind (Input.view self.now.input) forward offset q
             → IsAwaited (Input.view self.now.input) (direction_of forward) q place.new) }
     {
         let is_place = offset == *place;
-        self.fill_offset(ranks, answers, forward, is_place, offset)?;
+        self.fill_offset(table, answers, forward, is_place, offset)?;
         if is_place {
             *place = self.next_place(forward, *place);
         }
@@ -163,28 +189,27 @@ impl<'a, Input: ExecutorInput> Answering<'a, Input> {
     /// Works out all that is read forward, or backward, at each offset of the text: against the direction, so that what is ahead is told.
     fn fill_way(
         &self,
-        ranks: &RankTable,
+        table: &LinearTable,
         answers: &mut Answers,
         forward: bool,
     ) -> Result<(), AllocError>
-        ghost flow: { Flow }
         requires suits { Suits (program_of self.now.program.now) (Input.view self.now.input) }
         requires groups { length self.now.groups.now ≡ (program_of self.now.program.now).groups }
-        requires linear { IsLinear flow (heights_of ranks.now) (program_of self.now.program.now) }
+        requires linear { IsLinear (flow_in table.now) (heights_in table.now) (program_of self.now.program.now) }
         requires short { suc (length (Input.view self.now.input).units) < 2 ^ 64 - 1 }
         requires sized { IsSized (program_of self.now.program.now) answers.old }
-        requires filled { IsFilled flow (heights_of ranks.now) (program_of self.now.program.now) (Input.view self.now.input) answers.old forward 0
+        requires filled { IsFilled (flow_in table.now) (heights_in table.now) (program_of self.now.program.now) (Input.view self.now.input) answers.old forward 0
             (offset_of forward (length (Input.view self.now.input).units) 0) }
         ensures sized { OnOk result (IsSized (program_of self.now.program.now) answers.new) }
-        ensures filled { OnOk result (IsFilled flow (heights_of ranks.now) (program_of self.now.program.now) (Input.view self.now.input) answers.new forward
-            (length ranks.now.order.items) (offset_of forward (length (Input.view self.now.input).units) (length (Input.view self.now.input).units))) }
+        ensures filled { OnOk result (IsFilled (flow_in table.now) (heights_in table.now) (program_of self.now.program.now) (Input.view self.now.input) answers.new forward
+            (length (heights_in table.now).order) (offset_of forward (length (Input.view self.now.input).units) (length (Input.view self.now.input).units))) }
     {
         let last = self.text_len();
         let mut place = if forward { last } else { 0 };
         let mut step = 0;
         loop {
             let offset = if forward { last - step } else { step };
-            self.fill_next(ranks, answers, forward, offset, &mut place)?;
+            self.fill_next(table, answers, forward, offset, &mut place)?;
             if step == last {
                 return Ok(());
             }
@@ -193,19 +218,16 @@ impl<'a, Input: ExecutorInput> Answering<'a, Input> {
     }
 
     /// Works out for each address and each offset of the text whether runs from there have an answer. It errs where memory is refused.
-    pub(crate) fn fill(&self, ranks: &RankTable, answers: &mut Answers) -> Result<(), AllocError>
-        ghost flow: { Flow }
+    pub(crate) fn answers(&self, alloc: Global, table: &LinearTable) -> Result<Answers, AllocError>
         requires suits { Suits (program_of self.now.program.now) (Input.view self.now.input) }
         requires groups { length self.now.groups.now ≡ (program_of self.now.program.now).groups }
-        requires linear { IsLinear flow (heights_of ranks.now) (program_of self.now.program.now) }
+        requires linear { IsLinear (flow_in table.now) (heights_in table.now) (program_of self.now.program.now) }
         requires short { suc (length (Input.view self.now.input).units) < 2 ^ 64 - 1 }
-        requires sized { IsSized (program_of self.now.program.now) answers.old }
-        requires empty { (at o : ℕ) → told_by answers.old at o ≡ false }
-        requires no_exits { (at o : ℕ) → exits_by answers.old at o ≡ false }
-        ensures sized { OnOk result (IsSized (program_of self.now.program.now) answers.new) }
-        ensures right { OnOk result (AreRight flow (heights_of ranks.now) (program_of self.now.program.now) (Input.view self.now.input) answers.new) }
+        ensures { IfOk result (AreRight (flow_in table.now) (heights_in table.now) (program_of self.now.program.now) (Input.view self.now.input)) }
     {
-        self.fill_way(ranks, answers, false)?;
-        self.fill_way(ranks, answers, true)
+        let mut answers = Answers::empty(alloc, self.program.insns().len())?;
+        self.fill_way(table, &mut answers, false)?;
+        self.fill_way(table, &mut answers, true)?;
+        Ok(answers)
     }
 }

@@ -6,6 +6,7 @@ mod filling;
 mod laws;
 mod making;
 mod ranks;
+mod testing;
 
 pub use answers::{Answering, Answers};
 pub use laws::{
@@ -13,3 +14,4 @@ pub use laws::{
     running_states_run_alike, runs_go_beyond,
 };
 pub use ranks::RankTable;
+pub use testing::{LinearTable, MOST_REPEATS};

@@ -35,7 +35,7 @@ impl RankTable {
     }
 
     /// Whether an address is read forward.
-    fn is_forward(&self, at: usize) -> bool
+    pub(crate) fn is_forward(&self, at: usize) -> bool
         ensures { result ≡ forward_at (heights_of self.now) at }
     {
         at < self.forward.len() && self.forward[at]

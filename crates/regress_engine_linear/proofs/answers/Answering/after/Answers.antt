@@ -15,8 +15,7 @@ after_times-requires-clause-body g c =
     let all = g.met.Input.InputIndexer.are_of_kind c.args.self.now.input in
     let dir = direction_of c.args.forward in
     let i = instruction c.args.body.now in
-    let (at, repeated) = c.requires.repeated in
-    (
+    let (at, repeated) = c.requires.repeated in (
       suc (suc at),
       body-before v all program c.requires.suits dir at i repeated,
       body-here v all program c.requires.suits dir at i repeated c.args.offset c.requires.place,

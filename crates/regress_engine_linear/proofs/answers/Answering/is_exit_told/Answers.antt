@@ -1,4 +1,4 @@
-use Rattle.std.proofs.Common.{◌≡◌, ◌+◌, [], true, false, sym, ◌∙◌}
+use Rattle.std.proofs.Common.{◌≡◌, ◌+◌, true, false, sym, ◌∙◌}
 use Rattle.regress_engine_code.specs.Standing.{program_of}
 use Rattle.regress_engine_input.specs.Views.{direction_of, input_of}
 use Rattle.regress_engine_insn.specs.InsnViews.{instruction}
@@ -37,7 +37,7 @@ pub returns : goal.returns
 returns g c =
     let told = told_by c.args.answers.now in
     let behind = c.loop-left.behind in
-    c.are_told.ensures
+    c.are_told-2.ensures
     ∙ one-all told (c.args.at + 2) (program_of c.args.self.now.program.now) (input_of (g.Input.InputIndexer.view c.args.self.now.input)) (instruction c.args.body.now) (direction_of c.args.forward)
     c.loop-left.left behind c.loop-left-test.false
     ∙ c.loop-left.invariant.rest
