@@ -13,6 +13,6 @@ in_set (Some bits) n = has bits n
 abbrev pub told_by : Answers → (at o : ℕ) → Bool
 told_by a at o = in_set (slice_get a.offsets.items at) o
 
--- it is told that one of the exits of the one-character loop at an address has an answer, from an offset on
+-- it is told that one of the exits of the one-character loop at an address has an answer, behind at least one more character from an offset on
 abbrev pub exits_by : Answers → (at o : ℕ) → Bool
 exits_by a at o = in_set (slice_get a.exits.items at) o
