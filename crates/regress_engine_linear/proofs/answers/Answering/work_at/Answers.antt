@@ -22,31 +22,25 @@ instruction-body-requires g c =
     body-stands (g.Input.InputIndexer.view c.args.self.now.input) (program_of c.args.self.now.program.now) c.requires.suits c.args.at single.min_iters single.max_iters single.greedy
     (subst (λ x. Stands (program_of c.args.self.now.program.now) c.args.at (instruction x)) single.is c.instruction-insn.ensures.stands)
 
-pub work_out_single-requires : goal.work_out_single-requires
-work_out_single-requires g c =
-    let program : Program = program_of c.args.self.now.program.now in
-    let v : View = g.Input.InputIndexer.view c.args.self.now.input in
+pub work_out_single-requires-clause-repeated : goal.work_out_single-requires-clause-repeated
+work_out_single-requires-clause-repeated g c =
     let single = c.in-Loop1CharBody in
-    let here : Stands program c.args.at (code.single_loop single.min_iters single.max_iters single.greedy) =
-    subst (λ x. Stands program c.args.at (instruction x)) single.is c.instruction-insn.ensures.stands in
-    let old = c.args.answers.now in
-    let room = c.instruction-body.ensures.room in
-    let within = c.requires.within in
-    let count = c.requires.count in
-    let count_exits = c.requires.count_exits in
-    let body = instruction c.instruction-body.result.now in
-    record {
-      room = omega (arith, room);
-      suits = c.requires.suits;
-      groups = c.requires.groups;
-      repeated = body-repeated v program c.requires.suits c.args.at single.min_iters single.max_iters single.greedy here body c.instruction-body.ensures.stands;
-      place = c.requires.place;
-      order = numbers-order v program c.requires.suits c.args.at single.min_iters single.max_iters single.greedy here;
-      within = omega (arith, within, count);
-      within_exits = omega (arith, within, count_exits);
-      exits = exits-of v program c.requires.suits c.args.at single.min_iters single.max_iters single.greedy here (told_by old) (exits_by old) (direction_of c.args.forward) c.args.offset body
-          c.instruction-body.ensures.stands c.requires.exits;
-    }
+    body-repeated (g.Input.InputIndexer.view c.args.self.now.input) (program_of c.args.self.now.program.now) c.requires.suits c.args.at single.min_iters single.max_iters single.greedy
+    (subst (λ x. Stands (program_of c.args.self.now.program.now) c.args.at (instruction x)) single.is c.instruction-insn.ensures.stands)
+    (instruction c.instruction-body.result.now) c.instruction-body.ensures.stands
+
+pub work_out_single-requires-clause-order : goal.work_out_single-requires-clause-order
+work_out_single-requires-clause-order g c =
+    let single = c.in-Loop1CharBody in
+    numbers-order (g.Input.InputIndexer.view c.args.self.now.input) (program_of c.args.self.now.program.now) c.requires.suits c.args.at single.min_iters single.max_iters single.greedy
+    (subst (λ x. Stands (program_of c.args.self.now.program.now) c.args.at (instruction x)) single.is c.instruction-insn.ensures.stands)
+
+pub work_out_single-requires-clause-exits : goal.work_out_single-requires-clause-exits
+work_out_single-requires-clause-exits g c =
+    let single = c.in-Loop1CharBody in
+    exits-of (g.Input.InputIndexer.view c.args.self.now.input) (program_of c.args.self.now.program.now) c.requires.suits c.args.at single.min_iters single.max_iters single.greedy
+    (subst (λ x. Stands (program_of c.args.self.now.program.now) c.args.at (instruction x)) single.is c.instruction-insn.ensures.stands)
+    (told_by c.args.answers.now) (exits_by c.args.answers.now) (direction_of c.args.forward) c.args.offset (instruction c.instruction-body.result.now) c.instruction-body.ensures.stands c.requires.exits
 
 pub work_out-requires : goal.work_out-requires
 work_out-requires g c =
