@@ -2,7 +2,7 @@
 use Rattle.std.specs.Prelude.{◌≡◌, ℕ, suc, ◌&&◌, ◌||◌, Bool, true, false, List, [], ◌∷◌, length, Option, Some, None, is_some, not, if◌then◌else◌, slice_get, nat_le}
 use Rattle.regress_meaning.specs.Meaning.{Direction}
 use Rattle.regress_meaning.specs.Inputs.{Input}
-use Rattle.regress_front_nodes.specs.Trees.{Submatch, lookaround, atomic}
+use Rattle.regress_front_nodes.specs.Trees.{lookaround, atomic}
 use Rattle.regress_engine_input.specs.Views.{View, input_of, reading_of}
 use Rattle.regress_engine_insn.specs.Instructions.{LoopFields, Instruction, Program, Stands}
 use Rattle.regress_engine_insn.specs.Instructions as code
@@ -96,7 +96,7 @@ abbrev pub IsRepeated : Program → (at : ℕ) → Instruction → Type 0
 IsRepeated program at body = Stands program (suc at) body × (takes_character body ≡ true)
 
 module _ (told : ℕ → ℕ → Bool) (program : Program) (v : View) (dir : Direction) (at : ℕ) where
-  -- whether one of all exits of a one-character loop behind at least one more character has an answer
+  -- whether one of all exits of a one-character loop that repeats an instruction has an answer behind at least one more character
   abbrev pub one_beyond : (body : Instruction) → (o : ℕ) → Bool
   one_beyond body o = elim (advance program (input_of v) body dir [] o) [
     | None ↦ false
@@ -104,10 +104,10 @@ module _ (told : ℕ → ℕ → Bool) (program : Program) (v : View) (dir : Dir
   ]
 
 module _ (told exits : ℕ → ℕ → Bool) (program : Program) (v : View) (dir : Direction) (at o : ℕ) where
-  -- that is told of a loop that repeats this instruction at each place further than an offset
+  -- what is told of the exits of a one-character loop that repeats an instruction is right at each place further than an offset
   abbrev pub AreExitsOf : Instruction → Type 0
   AreExitsOf body = (q : ℕ) → IsAtPlace (reading_of v) q → IsFurther (length v.units) dir o q → exits at q ≡ one_beyond told program v dir at body q
 
-  -- and of the one-character loop that stands at the address, if one does
+  -- what is told of the exits of the one-character loop that stands at an address, if one does, is right there
   abbrev pub AreExitsRight : Type 0
   AreExitsRight = (least most : ℕ) (greedy : Bool) (body : Instruction) → Stands program at (code.single_loop least most greedy) → Stands program (suc at) body → AreExitsOf body

@@ -85,8 +85,8 @@ impl Answers {
         }
     }
 
-    /// Whether one of the exits of a one-character loop has an answer from an offset on, its own among them. `beyond` is whether one has
-    /// behind at least one more character from `offset` on, where that is not told yet.
+    /// Whether one of the exits of a one-character loop has an answer from the offset `near` on, the one there among them. Of `offset` it is
+    /// not told yet whether one has behind at least one more character: `beyond` says it.
     fn have_exits_from(&self, at: usize, near: usize, offset: usize, beyond: bool) -> bool
         requires { at + 2 < 2 ^ 64 }
         ensures { result ≡ (told_by self.now (at + 2) near || (if near == offset then beyond else exits_by self.now at near)) }
@@ -236,7 +236,8 @@ impl<'a, Input: ExecutorInput> Answering<'a, Input> {
         requires groups { length self.now.groups.now ≡ (program_of self.now.program.now).groups }
         requires repeated { (at : ℕ) × IsRepeated (program_of self.now.program.now) at (instruction body.now) }
         requires place { IsAtPlace (reading_of (Input.view self.now.input)) offset }
-        ensures next { result ≡ advance (program_of self.now.program.now) (input_of (Input.view self.now.input)) (instruction body.now) (direction_of forward) [] offset }
+        ensures next { result ≡ advance (program_of self.now.program.now) (input_of (Input.view self.now.input)) (instruction body.now)
+            (direction_of forward) [] offset }
         ensures place { IfSome result (IsAtPlace (reading_of (Input.view self.now.input))) }
     {
         advance(
@@ -255,7 +256,8 @@ impl<'a, Input: ExecutorInput> Answering<'a, Input> {
         requires groups { length self.now.groups.now ≡ (program_of self.now.program.now).groups }
         requires repeated { (at : ℕ) × IsRepeated (program_of self.now.program.now) at (instruction body.now) }
         requires place { IsAtPlace (reading_of (Input.view self.now.input)) offset }
-        ensures after { result ≡ after_times (program_of self.now.program.now) (input_of (Input.view self.now.input)) times (instruction body.now) (direction_of forward) [] offset }
+        ensures after { result ≡ after_times (program_of self.now.program.now) (input_of (Input.view self.now.input)) times (instruction body.now)
+            (direction_of forward) [] offset }
         ensures place { IfSome result (IsAtPlace (reading_of (Input.view self.now.input))) }
     {
         after_times(
@@ -284,7 +286,8 @@ impl<'a, Input: ExecutorInput> Answering<'a, Input> {
         requires groups { length self.now.groups.now ≡ (program_of self.now.program.now).groups }
         requires repeated { IsRepeated (program_of self.now.program.now) at (instruction body.now) }
         requires place { IsAtPlace (reading_of (Input.view self.now.input)) offset }
-        ensures { result ≡ one_at (told_by answers.now) (at + 2) (one_by_one (program_of self.now.program.now) (input_of (Input.view self.now.input)) times (instruction body.now) (direction_of forward) [] offset) }
+        ensures { result ≡ one_at (told_by answers.now) (at + 2) (one_by_one (program_of self.now.program.now) (input_of (Input.view self.now.input)) times
+            (instruction body.now) (direction_of forward) [] offset) }
     {
         let mut behind = offset;
         let mut left = times;
@@ -301,7 +304,7 @@ impl<'a, Input: ExecutorInput> Answering<'a, Input> {
         answers.are_told(at + 2, behind)
     }
 
-    /// Whether runs from a one-character loop and an offset have an answer. `beyond` is whether one of its exits has behind at least one
+    /// Whether runs from a one-character loop and an offset have an answer. `beyond` says whether one of its exits has behind at least one
     /// more character.
     fn has_single(
         &self,
@@ -320,10 +323,12 @@ impl<'a, Input: ExecutorInput> Answering<'a, Input> {
         requires repeated { IsRepeated (program_of self.now.program.now) at (instruction body.now) }
         requires place { IsAtPlace (reading_of (Input.view self.now.input)) offset }
         requires order { least ≤ most }
-        requires here { beyond ≡ one_beyond (told_by answers.now) (program_of self.now.program.now) (Input.view self.now.input) (direction_of forward) at (instruction body.now) offset }
-        requires exits { AreExitsOf (told_by answers.now) (exits_by answers.now) (program_of self.now.program.now) (Input.view self.now.input) (direction_of forward) at offset (instruction body.now) }
-        ensures { (greedy : Bool) → result ≡ one_at (told_by answers.now) (at + 2) (counted (program_of self.now.program.now) (input_of (Input.view self.now.input)) least most greedy
-            (instruction body.now) (direction_of forward) [] offset) }
+        requires here { beyond ≡ one_beyond (told_by answers.now) (program_of self.now.program.now) (Input.view self.now.input) (direction_of forward) at
+            (instruction body.now) offset }
+        requires exits { AreExitsOf (told_by answers.now) (exits_by answers.now) (program_of self.now.program.now) (Input.view self.now.input)
+            (direction_of forward) at offset (instruction body.now) }
+        ensures { (greedy : Bool) → result ≡ one_at (told_by answers.now) (at + 2) (counted (program_of self.now.program.now)
+            (input_of (Input.view self.now.input)) least most greedy (instruction body.now) (direction_of forward) [] offset) }
     {
         let Some(near) = self.after(body, least, forward, offset) else {
             return false;
@@ -335,8 +340,8 @@ impl<'a, Input: ExecutorInput> Answering<'a, Input> {
         answers.have_exits_from(at, near, offset, beyond)
     }
 
-    /// The same of a one-character loop: it is also told whether one of its exits has an answer behind at least one more character. Where
-    /// that is asked further on, it has to be told already.
+    /// Works out whether runs from a one-character loop and an offset have an answer, and whether one of its exits has behind at least one
+    /// more character, and tells both. Of the exits it has to be told right at each place further on. It errs where memory is refused.
     pub(crate) fn work_out_single(
         &self,
         answers: &mut Answers,
@@ -355,13 +360,16 @@ impl<'a, Input: ExecutorInput> Answering<'a, Input> {
         requires order { least ≤ most }
         requires within { at < length answers.old.offsets.items }
         requires within_exits { at < length answers.old.exits.items }
-        requires exits { AreExitsOf (told_by answers.old) (exits_by answers.old) (program_of self.now.program.now) (Input.view self.now.input) (direction_of forward) at offset (instruction body.now) }
+        requires exits { AreExitsOf (told_by answers.old) (exits_by answers.old) (program_of self.now.program.now) (Input.view self.now.input)
+            (direction_of forward) at offset (instruction body.now) }
         ensures count { length answers.new.offsets.items ≡ length answers.old.offsets.items }
         ensures count_exits { length answers.new.exits.items ≡ length answers.old.exits.items }
         ensures exits { OnOk result ((a o : ℕ) → exits_by answers.new a o ≡ (exits_by answers.old a o || (((a == at) && (offset == o))
-            && exits_at (told_by answers.old) (exits_by answers.old at) at (advance (program_of self.now.program.now) (input_of (Input.view self.now.input)) (instruction body.now) (direction_of forward) [] offset)))) }
+            && exits_at (told_by answers.old) (exits_by answers.old at) at (advance (program_of self.now.program.now) (input_of (Input.view self.now.input))
+            (instruction body.now) (direction_of forward) [] offset)))) }
         ensures told { OnOk result ((greedy : Bool) (a o : ℕ) → told_by answers.new a o ≡ (told_by answers.old a o || (((a == at) && (offset == o))
-            && one_at (told_by answers.old) (at + 2) (counted (program_of self.now.program.now) (input_of (Input.view self.now.input)) least most greedy (instruction body.now) (direction_of forward) [] offset)))) }
+            && one_at (told_by answers.old) (at + 2) (counted (program_of self.now.program.now) (input_of (Input.view self.now.input)) least most greedy
+            (instruction body.now) (direction_of forward) [] offset)))) }
     {
         let next = self.next(body, forward, offset);
         let beyond = answers.have_exits(at, next);
@@ -370,7 +378,8 @@ impl<'a, Input: ExecutorInput> Answering<'a, Input> {
         insert_if(&mut answers.offsets, has, at, offset)
     }
 
-    /// Works out an address and an offset, by the instruction that stands there. It errs where memory is refused.
+    /// Works out an address and an offset, by the instruction that stands there. Of the exits of a one-character loop it has to be told right
+    /// at each place further on. It errs where memory is refused.
     pub(crate) fn work_at(
         &self,
         answers: &mut Answers,

@@ -1,4 +1,4 @@
-use Rattle.std.proofs.Common.{◌≡◌, ◌≤◌, ◌-◌, length, arith, ◌∙◌}
+use Rattle.std.proofs.Common.{◌≤◌, ◌-◌, length, arith, ◌∙◌}
 use Rattle.regress_engine_code.specs.Standing.{program_of}
 use Rattle.regress_engine_input.specs.Views.{direction_of}
 use Rattle.regress_engine_insn.specs.InsnViews.{instruction}

@@ -1,5 +1,5 @@
 use Rattle.std.specs.Prelude.{map}
-use Rattle.std.proofs.Common.{◌≡◌, ℕ, ◌+◌, ◌<◌, ◌&&◌, ◌||◌, ◌==◌, Bool, Result, Ok, Err, OnOk, sym, ap, ◌∙◌, subst, length, arith}
+use Rattle.std.proofs.Common.{◌&&◌, ◌||◌, ◌==◌, Result, Ok, Err, OnOk, sym, ap, ◌∙◌, subst, arith}
 use Rattle.std.proofs.lemmas.List.{length-map}
 use Rattle.regress_engine_code.specs.Standing.{program_of}
 use Rattle.regress_engine_input.specs.Views.{View, direction_of}
