@@ -1,4 +1,4 @@
--- Whether one of the exits of a one-character loop answers, from each offset on.
+-- Whether a one-character loop answers, by what is told of its exits from each offset on.
 use Rattle.std.specs.Prelude.{IfSome, option_and_then, reverse}
 use Rattle.std.proofs.Common.{◌≡◌, ℕ, zero, suc, ◌+◌, ◌-◌, ◌<◌, ◌≤◌, ◌⊎◌, inl, inr, ◌||◌, ◌==◌, Bool, true, false, List, [], ◌∷◌, ◌++◌, length, Option, None, Some, if◌then◌else◌, refl, sym, ap, ◌∙◌, subst, arith}
 use Rattle.std.proofs.lemmas.Bool.{eqb-false, eqb-true}
@@ -148,7 +148,7 @@ module _ (v : View) (all : AreOfKind v.kind v.units) (program : Program) (suits 
   body-here o place = (i, body-before, repeated.1, place, omega arith)
 
   -- behind a character there is a place, further on
-  pub place-next : (o q : ℕ) → IsAtPlace (reading_of v) o → next v program dir i repeated.1 o ≡ Some q → IsAtPlace (reading_of v) q
+  place-next : (o q : ℕ) → IsAtPlace (reading_of v) o → next v program dir i repeated.1 o ≡ Some q → IsAtPlace (reading_of v) q
   place-next o q place e = (body-next v all program suits (suc (suc at)) o q i dir [] (body-here o place) body-before e).3
 
   pub next-there : (o : ℕ) → IsAtPlace (reading_of v) o → (x : Option ℕ) → x ≡ next v program dir i repeated.1 o → IfSome x (IsAtPlace (reading_of v))
