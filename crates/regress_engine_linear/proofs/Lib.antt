@@ -10,5 +10,6 @@ pub mod ExitAnswers
 pub mod WorkLemmas
 pub mod Within
 pub mod FillLemmas
+pub mod FillingWays
 pub mod NextPlaces
 pub mod DecidingLinear
