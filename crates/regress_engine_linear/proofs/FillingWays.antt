@@ -1,6 +1,6 @@
 -- A table of answers is filled from one offset to the next, and both ways.
 use Rattle.std.specs.Prelude.{not, slice_get}
-use Rattle.std.proofs.Common.{◌≡◌, ℕ, suc, ◌+◌, ◌-◌, ◌^◌, ◌<◌, ◌≤◌, ◌⊎◌, inl, inr, Bool, true, false, if◌then◌else◌, length, get_or, Result, Ok, Err, OnOk, Option, Some, refl, sym, ap, ◌∙◌, subst, arith}
+use Rattle.std.proofs.Common.{◌≡◌, ℕ, suc, ◌+◌, ◌-◌, ◌^◌, ◌<◌, ◌≤◌, ◌⊎◌, inl, inr, Bool, true, false, if◌then◌else◌, length, get_or, Result, Ok, Err, OnOk, IfSome, Option, Some, refl, sym, ap, ◌∙◌, subst, arith}
 use Rattle.std.proofs.lemmas.Option.{slice_get-get_or}
 use Rattle.regress_meaning.specs.Meaning.{Direction, Forward, Backward}
 use Rattle.regress_engine_input.specs.Views.{View, AreOfKind, direction_of, reading_of}
@@ -26,15 +26,23 @@ pub turned : (forward : Bool) → against (direction_of forward) ≡ direction_o
 turned true = refl
 turned false = refl
 
--- the offset that is worked out next is right behind
-pub step-behind : (v : View) (forward : Bool) (step : ℕ) → step < length v.units
-    → IsBehind v forward (offset_of forward (length v.units) step) (offset_of forward (length v.units) (suc step))
-step-behind v true step less = omega (arith, less)
-step-behind v false step less = refl
+-- what is some is so
+pub if-some : {T : Type 0} (P : T → Type 0) (x : Option T) (y : T) → x ≡ Some y → IfSome x P → P y
+if-some P x y e known = subst (λ z. IfSome z P) e known
 
-pub step-within : (last : ℕ) (forward : Bool) (step : ℕ) → step ≤ last → offset_of forward last step ≤ last
-step-within last true step less = omega arith
-step-within last false step less = less
+-- the offset of a step
+pub offset-is : (forward : Bool) (last step o : ℕ) → (forward ≡ true → o ≡ last - step) → (forward ≡ false → o ≡ step) → o ≡ offset_of forward last step
+offset-is true last step o onward back = onward refl
+offset-is false last step o onward back = back refl
+
+-- the offset that is worked out next is right behind
+pub step-behind : (v : View) (forward : Bool) (n step : ℕ) → n ≡ length v.units → step < n → IsBehind v forward (offset_of forward n step) (offset_of forward n (step + 1))
+step-behind v true n step end less = omega (arith, end, less)
+step-behind v false n step end less = omega arith
+
+pub step-within : (last n : ℕ) (forward : Bool) (step : ℕ) → n ≡ last → step ≤ n → offset_of forward n step ≤ last
+step-within last n true step end less = omega (arith, end)
+step-within last n false step end less = omega (arith, end, less)
 
 module _ (flow : Flow) (h : Heights) (v : View) (all : AreOfKind v.kind v.units) (program : Program) (suits : Suits program v) (linear : IsLinear flow h program)
     (short : suc (length v.units) < 2 ^ 64 - 1) where

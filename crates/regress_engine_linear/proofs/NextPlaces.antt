@@ -1,6 +1,6 @@
 -- What is read behind a place stands at the next place: no other lies between.
 use Rattle.std.specs.Prelude.{slice_get, option_map}
-use Rattle.std.proofs.Common.{◌≡◌, if◌then◌else◌, ℕ, zero, suc, ◌+◌, ◌-◌, ◌<◌, ◌≤◌, ◌⊎◌, inl, inr, Bool, true, false, List, length, Option, None, Some, refl, sym, ap, ◌∙◌, subst, arith}
+use Rattle.std.proofs.Common.{◌≡◌, ℕ, zero, suc, ◌+◌, ◌-◌, ◌<◌, ◌≤◌, ◌⊎◌, inl, inr, Bool, true, false, List, length, Option, None, Some, refl, sym, ap, ◌∙◌, subst, arith}
 use Rattle.std.proofs.lemmas.Bool.{cases_lt}
 use Rattle.std.proofs.lemmas.Option.{slice_get-get_or, slice_get_within}
 use Rattle.regress_meaning.specs.Meaning.{Direction, Forward, Backward}
@@ -13,7 +13,7 @@ use Rattle.regress_engine_runs.specs.Meets.{IsAtPlace}
 use Rattle.regress_engine_runs.specs.Runs.{against, room}
 use Rattle.regress_engine_search.proofs.PlaceLemmas.{end-is, units-are}
 use Rattle.regress_engine_search.proofs.SkipLemmas.{place-lies}
-use Rattle.regress_engine_linear.specs.Filled.{IsAwaited, IsNextPlace}
+use Rattle.regress_engine_linear.specs.Filled.{IsAwaited, IsNextPlace, offset_of}
 
 same-second : (x y : ℕ × ℕ) → Some x ≡ Some y → x.1 ≡ y.1
 same-second x y e = let same : x ≡ y = cc in ap (λ (z : ℕ × ℕ). z.1) same
@@ -121,14 +121,24 @@ module _ (v : View) (all : AreOfKind v.kind v.units) where
   whole-room Forward = (0, (zero, omega arith, refl), omega arith)
   whole-room Backward = (last, (length reading.points, omega arith, sym (end-is v all ∙ ap length (units-are v))), refl)
 
-  -- and one has none
-  pub first-awaited : (forward : Bool) → IsAwaited v (direction_of forward) (if forward then last else 0) (if forward then last else 0)
-  first-awaited true = record {
-    place = (whole-room Backward).1;
-    ahead = omega arith;
-    none = λ p there more. omega arith;
-  }
-  first-awaited false = record { place = (whole-room Forward).1; ahead = omega arith; none = λ p there more. omega arith }
+  -- at first the place is awaited that has none
+  pub first-awaited : (forward : Bool) (n place : ℕ) → n ≡ last → (forward ≡ true → place ≡ n) → (forward ≡ false → place ≡ 0)
+      → IsAwaited v (direction_of forward) (offset_of forward n 0) place
+  first-awaited true n place end onward back =
+      let is = onward refl in
+      let same : last ≡ place = omega (arith, end, is) in
+      record {
+        place = subst (IsAtPlace reading) same (length reading.points, omega arith, sym (end-is v all ∙ ap length (units-are v)));
+        ahead = omega (arith, is);
+        none = λ p there more. omega (arith, is, end);
+      }
+  first-awaited false n place end onward back =
+      let is = back refl in
+      record {
+        place = subst (IsAtPlace reading) (sym is) (zero, omega arith, refl);
+        ahead = omega (arith, is);
+        none = λ p there more. omega (arith, is);
+      }
 
   module _ (dir : Direction) (o place : ℕ) (low : o ≤ last) (awaited : IsAwaited v dir o place) where
     -- an offset at which no place is awaited is none
