@@ -8,3 +8,4 @@ pub mod AnswerLemmas
 pub mod Formulas
 pub mod ExitAnswers
 pub mod WorkLemmas
+pub mod WalkLemmas

@@ -3,3 +3,4 @@ pub mod RankTables
 pub mod Answered
 pub mod AnswerTables
 pub mod Filled
+pub mod Walked

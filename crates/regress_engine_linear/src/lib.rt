@@ -5,6 +5,7 @@ mod answers;
 mod laws;
 mod making;
 mod ranks;
+mod walking;
 
 pub use answers::{Answering, Answers};
 pub use laws::{
