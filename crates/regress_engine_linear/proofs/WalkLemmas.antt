@@ -1,7 +1,7 @@
 -- From each state of the way on it goes where a run has the same answer.
 use Rattle.std.specs.Prelude.{is_some, map, nat_lt, nat_le, option_and_then, reverse, slice_get, slice_set}
 use Rattle.std.specs.List.{AllByRecursion}
-use Rattle.std.proofs.Common.{◌≡◌, ◌⊎◌, inl, inr, ℕ, zero, suc, ◌+◌, ◌-◌, ◌*◌, ◌<◌, ◌≤◌, ◌&&◌, Bool, true, false, List, [], ◌∷◌, ◌++◌, All, length, get_or, Option, None, Some, if◌then◌else◌, refl, sym, ap, ◌∙◌, subst, arith, append-nil, get_or-set_same, length-append, length-drop}
+use Rattle.std.proofs.Common.{◌≡◌, ◌⊎◌, inl, inr, ℕ, zero, suc, ◌+◌, ◌-◌, ◌*◌, ◌<◌, ◌≤◌, ◌&&◌, Bool, true, false, List, [], ◌∷◌, ◌++◌, All, length, get_or, Option, None, Some, if◌then◌else◌, refl, sym, ap, ap₂, ◌∙◌, subst, arith, append-nil, get_or-set_same, length-append, length-drop, replicate, take}
 use Rattle.std.proofs.lemmas.Bool.{leb-true, lt-ltb, ltb-true}
 use Rattle.std.proofs.lemmas.List.{reverse-append}
 use Rattle.std.proofs.lemmas.List.Elements.{All-cons, All-nil, All-weaker}
@@ -19,19 +19,19 @@ use Rattle.regress_engine_insn.specs.Instructions.{LoopFields, Instruction, Prog
 use Rattle.regress_engine_insn.specs.Instructions as code
 use Rattle.regress_engine_runs.specs.States.{Marks, Whole, first_state, mixed, onward, unset}
 use Rattle.regress_engine_runs.specs.Runs.{Run, finds, goes, looks, advance, after_submatch, after_times, as_far, choices, count_of, counted, entered, fields_of, given_back, is_idle, is_plain, moved_to, one_by_one, one_more, ordered, room, successors}
-use Rattle.regress_engine_runs.specs.Closed.{takes_character}
+use Rattle.regress_engine_runs.specs.Closed.{Fits, takes_character}
 use Rattle.regress_engine_runs.specs.Meets.{Meets, IsAtPlace, behind, now, reads_character, referred}
 use Rattle.regress_engine_runs.specs.UndoStack.{whole, at_each}
 use Rattle.regress_engine_runs.proofs.Computed.{one_run}
 use Rattle.regress_engine_runs.proofs.Parts.{meets-first, meets-others, run-behind, some-then}
 use Rattle.regress_engine_runs.proofs.RunViews.{AtLook, one_stands, run_found, run_looks, run_none}
-use Rattle.regress_engine_search.specs.Ready.{IsBody}
+use Rattle.regress_engine_search.specs.Ready.{IsBody, IsReady, is_simple}
 use Rattle.regress_engine_search.specs.Search.{Suits}
 use Rattle.regress_engine_search.specs.Answering.{IsAnswer}
 use Rattle.regress_engine_search.proofs.GivenBack.{given-back}
 use Rattle.regress_engine_search.proofs.InsnLemmas.{again-successors}
 use Rattle.regress_engine_search.proofs.PlaceLemmas.{next-place, units-are}
-use Rattle.regress_engine_search.proofs.ReadyLemmas.{body-next}
+use Rattle.regress_engine_search.proofs.ReadyLemmas.{body-next, simple-ready}
 use Rattle.regress_engine_search.proofs.SkipLemmas.{place-lies}
 use Rattle.regress_engine_memory.specs.Flow.{Flow, Flows, IsFlow}
 use Rattle.regress_engine_memory.specs.Under.{IsFurther}
@@ -44,7 +44,7 @@ use Rattle.regress_engine_linear.specs.Ranks.{Ranking, Ranks, Lowers, IsCycle, A
 use Rattle.regress_engine_linear.specs.RankTables.{Heights, rank_at, ranking_of}
 use Rattle.regress_engine_linear.specs.Answered.{Ends, IsAnswered, ReadsAlong}
 use Rattle.regress_engine_linear.specs.AnswerTables.{told_by}
-use Rattle.regress_engine_linear.specs.Walked.{IsOnWay, IsPassedPlainly, MayWalk, again_at, either_of, exit_at, first_at, first_of, last_at, led, marked, station_at}
+use Rattle.regress_engine_linear.specs.Walked.{IsOnWay, IsPassedPlainly, MayWalk, again_at, either_of, exit_at, first_at, first_of, last_at, led, marked, station_at, written_by}
 use Rattle.regress_engine_linear.specs.declared.answers.Answers.{Answers}
 use Rattle.regress_engine_linear.specs.declared.walking.Station.{Station}
 use Rattle.regress_engine_linear.proofs.Alike.{busy}
@@ -52,6 +52,7 @@ use Rattle.regress_engine_linear.proofs.AnswerLemmas.{reads-on, run-onward}
 use Rattle.regress_engine_linear.proofs.Beyond.{goes-beyond}
 use Rattle.regress_engine_linear.proofs.FromStart.{running-first}
 use Rattle.regress_engine_linear.proofs.Running.{fields-stand, running-behind, running-step, same-loop}
+use Rattle.regress_engine_linear.proofs.WorkLemmas.{reads-there}
 
 -- ---- what is told of some offsets
 
@@ -88,6 +89,71 @@ module _ (told : ℕ → ℕ → Bool) (at : ℕ) where
 
   pub last-first : (os : List ℕ) → last_at told at os None ≡ first_at told at (reverse os)
   last-first os = last-turned os None ∙ or-none (first_at told at (reverse os))
+
+-- ---- what is looked for one by one
+
+module _ (program : Program) (input : Input) (i : Instruction) (dir : Direction) (gs : List Marks) where
+  abbrev ones : ℕ → ℕ → List ℕ
+  ones n o = one_by_one program input n i dir gs o
+
+  abbrev next : ℕ → Option ℕ
+  next o = advance program input i dir gs o
+
+  -- there are no more
+  ones-last : (n o : ℕ) → (n ≡ 0) ⊎ (next o ≡ None) → ones n o ≡ o ∷ []
+  unfolding one_by_one
+  ones-last zero o over = refl
+  ones-last (suc n) o (inl none) = absurd (omega (arith, none))
+  ones-last (suc n) o (inr none) = ap (λ (x : Option ℕ). o ∷ elim x [ None ↦ [] | Some q ↦ one_by_one program input n i dir gs q ]) none
+
+  -- there is one more at least
+  ones-more : (n o q : ℕ) → (n ≡ 0 → ⊥) → next o ≡ Some q → ones n o ≡ o ∷ ones (n - 1) q
+  unfolding one_by_one
+  ones-more zero o q some e = absurd (some refl)
+  ones-more (suc n) o q some e =
+      let before : n ≡ suc n - 1 = omega arith in
+      ap (λ (x : Option ℕ). o ∷ elim x [ None ↦ [] | Some q ↦ one_by_one program input n i dir gs q ]) e
+      ∙ ap (λ k. o ∷ one_by_one program input k i dir gs q) before
+
+  ones-begin : (n o : ℕ) → (os : List ℕ) × (ones n o ≡ o ∷ os)
+  unfolding one_by_one
+  ones-begin zero o = ([], refl)
+  ones-begin (suc n) o = (elim (next o) [ None ↦ [] | Some q ↦ one_by_one program input n i dir gs q ], refl)
+
+  module _ (told : ℕ → ℕ → Bool) (at : ℕ) where
+    pub near-here : (n o : ℕ) → told at o ≡ true → first_at told at (ones n o) ≡ Some o
+    near-here n o is =
+        let (os, e) = ones-begin n o in
+        ap (first_at told at) e ∙ ap (λ (b : Bool). if b then Some o else first_at told at os) is
+
+    pub near-last : (n o : ℕ) → told at o ≡ false → (n ≡ 0) ⊎ (next o ≡ None) → first_at told at (ones n o) ≡ None
+    near-last n o is over = ap (first_at told at) (ones-last n o over) ∙ ap (λ (b : Bool). if b then Some o else None) is
+
+    pub near-on : (n o q : ℕ) → told at o ≡ false → (n ≡ 0 → ⊥) → next o ≡ Some q → first_at told at (ones n o) ≡ first_at told at (ones (n - 1) q)
+    near-on n o q is some e = ap (first_at told at) (ones-more n o q some e) ∙ ap (λ (b : Bool). if b then Some o else first_at told at (ones (n - 1) q)) is
+
+    pub far-last : (n o : ℕ) (found : Option ℕ) → (n ≡ 0) ⊎ (next o ≡ None) → last_at told at (ones n o) found ≡ (if told at o then Some o else found)
+    far-last n o found over = ap (λ (os : List ℕ). last_at told at os found) (ones-last n o over)
+
+    pub far-on : (n o q : ℕ) (found : Option ℕ) → (n ≡ 0 → ⊥) → next o ≡ Some q
+        → last_at told at (ones n o) found ≡ last_at told at (ones (n - 1) q) (if told at o then Some o else found)
+    far-on n o q found some e = ap (λ (os : List ℕ). last_at told at os found) (ones-more n o q some e)
+
+-- ---- a list that was cleared and filled
+
+map-replicate : {A B : Type 0} (f : A → B) (n : ℕ) (x : A) → map f (replicate n x) ≡ replicate n (f x)
+map-replicate f zero x = refl
+map-replicate f (suc n) x = ap (λ xs. f x ∷ xs) (map-replicate f n x)
+
+take-none : {A : Type 0} (n : ℕ) (xs : List A) → xs ≡ [] → take n xs ≡ []
+take-none zero xs e = refl
+take-none (suc n) [] e = refl
+take-none (suc n) (x ∷ xs) e = absurd (cc e)
+
+pub filled : {A B : Type 0} (f : A → B) (new old : List A) (n l : ℕ) (x : A) (y : B) → new ≡ take n old ++ replicate (n - l) x → old ≡ [] → l ≡ 0 → f x ≡ y → map f new ≡ replicate n y
+filled f new old n l x y is none empty same =
+    let count : n - l ≡ n = omega (arith, empty) in
+    ap (map f) (is ∙ ap₂ (λ xs m. xs ++ replicate m x) (take-none n old none) count) ∙ map-replicate f n x ∙ ap (replicate n) same
 
 -- ---- what lies in the text
 
@@ -212,6 +278,32 @@ module _ (v : View) (all : AreOfKind v.kind v.units) where
         by_near None here = refl
         by_near (Some near) here = by_way near (after-on v all program suits Forward groups at i there takes least o near body here).1 greedy
 
+-- ---- where a one-character loop stands
+
+pub single-led : (told : ℕ → ℕ → Bool) (program : Program) (input : Input) (hs : List Marks) (at o least most : ℕ) (greedy : Bool) (j : Instruction) → Stands program (at + 1) j
+    → station_at (at + 2) (exit_at told program input Forward hs least most greedy j (at + 2) o) ≡ led told program input Forward hs (code.single_loop least most greedy) at o
+single-led told program input hs at o least most greedy j stands =
+    let one : at + 1 ≡ suc at = omega arith in
+    let two : at + 2 ≡ suc (suc at) = omega arith in
+    ap (λ k. station_at k (exit_at told program input Forward hs least most greedy j k o)) two
+    ∙ sym (ap (λ (x : Option Instruction). elim x [ None ↦ None | Some i ↦ station_at (suc (suc at)) (exit_at told program input Forward hs least most greedy i (suc (suc at)) o) ])
+    (subst (λ b. Stands program b j) one stands))
+
+pub single-body : (v : View) (program : Program) → Suits program v → (at o least most : ℕ) (greedy : Bool) → Stands program at (code.single_loop least most greedy) → IsAtPlace (reading_of v) o
+    → (j : Instruction) → Stands program (at + 1) j → IsBody program v (at + 2) o × (Stands program (at + 2 - 1) j × (least ≤ most))
+single-body v program suits at o least most greedy here place j stands =
+    let (i, there, takes, order) = suits.closed at (code.single_loop least most greedy) here in
+    let next : suc at ≡ at + 2 - 1 = omega arith in
+    let before : at + 1 ≡ at + 2 - 1 = omega arith in
+    ((i, subst (λ b. Stands program b i) next there, takes, place, omega arith), (subst (λ b. Stands program b j) before stands, order))
+
+pub single-stands : (v : View) (program : Program) → Suits program v → (at least most : ℕ) (greedy : Bool) → Stands program at (code.single_loop least most greedy)
+    → (i : Instruction) × Stands program (at + 1) i
+single-stands v program suits at least most greedy here =
+    let (i, there, takes, order) = suits.closed at (code.single_loop least most greedy) here in
+    let next : suc at ≡ at + 1 = omega arith in
+    (i, subst (λ b. Stands program b i) next there)
+
 -- ---- small facts
 
 -- of two things that hold of each of some states both do
@@ -235,6 +327,13 @@ mixed-none i low high (n ∷ new) (m ∷ old) none = by_first (nat_le low i) (na
     by_first true true never = absurd (never refl refl)
     by_first true false never = refl
     by_first false c never = refl
+
+-- a group whose marks are written is there
+pub written-fits : (program : Program) (at : ℕ) (i : Instruction) (k : ℕ) → Fits program at i → written_by i ≡ Some k → k < program.groups
+written-fits program at (code.begin_group j) k fits e = let same : j ≡ k = cc in subst (λ n. n < program.groups) same fits
+written-fits program at (code.end_group j) k fits e = let same : j ≡ k = cc in subst (λ n. n < program.groups) same fits
+written-fits program at (code.reset_group j) k fits e = let same : j ≡ k = cc in subst (λ n. n < program.groups) same fits
+written-fits program at _ k fits e = absurd (cc e)
 
 -- where a state runs an instruction stands
 pub runs-stand : {program : Program} {input : Input} {dir : Direction} {s : Whole} {ss : List Whole} {n : ℕ} {r : Option Whole} → Run program input dir (s ∷ ss) n r
@@ -590,6 +689,30 @@ module _ (flow : Flow) (h : Heights) (v : View) (all : AreOfKind v.kind v.units)
       record { loops = loops; answer = way.answer; steps = m; running = live; there = lies.0; within = lies.1; reads = reads; run = run; answers = way.answers },
       nearer here-now (whole x.at x.offset loops ms) beyond lies.0,
     )
+
+    -- what stands there may be asked
+    pub ready-here : (hs : List Marks) → length hs ≡ program.groups → (i : Instruction) → Stands program at i → is_simple i ≡ true → IsReady program v i hs o
+    ready-here hs count i here simple =
+        simple-ready program v suits i (whole at o [] hs) here simple count
+        (λ reads. reads-there v i (whole at o [] hs) (flows-unreferring flow program at i (may.closed at i way.running.calm here)) (way.reads here-now i now here reads).0)
+
+    pub reads-here : (i : Instruction) → Stands program at i → reads_character i ≡ true → IsAtPlace (reading_of v) o
+    reads-here i here reads = (way.reads here-now i now here reads).0
+
+    -- where it leads on it stays on its way, and comes nearer
+    pub next-way : (hs : List Marks) (i : Instruction) → Stands program at i → (x : Station) → led told program input Forward hs i at o ≡ Some x
+        → IsOnWay flow h program v start x.at x.offset (marked Forward i o gs) × (far x.at x.offset < far at o)
+    next-way hs i here x e =
+        comes-on x (marked Forward i o gs)
+        (subst (λ (y : Option Station). Leads way.answer here-now y (marked Forward i o gs)) e (leads-on start at o gs way hs i here other))
+      where
+        other : i ≡ code.goal → ⊥
+        other is = let never : None ≡ Some x = sym (ap (λ j. led told program input Forward hs j at o) is) ∙ e in absurd (cc never)
+
+    -- where it leads no further the run has its answer
+    pub end-way : (hs : List Marks) (i : Instruction) → Stands program at i → led told program input Forward hs i at o ≡ None → IsAnswer program input start (Some o) (marked Forward i o gs)
+    end-way hs code.goal here e = at-goal start at o gs way hs here
+    end-way hs i here e = absurd (subst (λ (y : Option Station). Leads way.answer here-now y (marked Forward i o gs)) e (leads-on start at o gs way hs i here (λ is. absurd (cc is))))
 
   -- from the begin it is on its way
   pub way-begins : (start : ℕ) → IsAtPlace (reading_of v) start → ReadsAlong program v Forward (first_state program start ∷ []) → told 0 start ≡ true

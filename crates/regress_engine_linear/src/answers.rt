@@ -116,7 +116,7 @@ pub struct Answering<'a, Input> {
 
 impl<'a, Input: ExecutorInput> Answering<'a, Input> {
     /// The instruction at an address.
-    fn instruction(&self, at: usize) -> &Insn
+    pub(crate) fn instruction(&self, at: usize) -> &Insn
         requires { (i : Instruction) × Stands (program_of self.now.program.now) at i }
         ensures stands { Stands (program_of self.now.program.now) at (instruction result.now) }
         ensures room { at + 1 < 2 ^ 64 }
