@@ -3,19 +3,20 @@ use Rattle.std.specs.Prelude.{◌≡◌, ℕ, suc, ◌-◌, ◌<◌, ◌≤◌, 
 use Rattle.regress_meaning.specs.Meaning.{Direction, Forward}
 use Rattle.regress_meaning.specs.Inputs.{Input}
 use Rattle.regress_front_nodes.specs.Trees.{Submatch, lookaround, atomic}
-use Rattle.regress_engine_input.specs.Views.{View, input_of}
+use Rattle.regress_engine_input.specs.Views.{View, input_of, reading_of}
 use Rattle.regress_engine_insn.specs.Instructions.{LoopFields, Instruction, Program, Stands}
 use Rattle.regress_engine_insn.specs.Instructions as code
 use Rattle.regress_engine_runs.specs.Items.{Answers as EndsIn}
+use Rattle.regress_engine_runs.specs.Meets.{IsAtPlace}
 use Rattle.regress_engine_runs.specs.Runs.{Run, advance, after_times, fields_of, one_by_one}
 use Rattle.regress_engine_runs.specs.States.{Marks, Whole, begun, ended, unset}
 use Rattle.regress_engine_runs.specs.UndoStack.{whole}
 use Rattle.regress_engine_memory.specs.Flow.{Flow, IsFlow}
 use Rattle.regress_engine_linear.specs.Ranks.{AreRanked, AreRunning, AreUnbounded}
 use Rattle.regress_engine_linear.specs.RankTables.{ArePlaced, Heights, forward_at, ranking_of}
-use Rattle.regress_engine_linear.specs.Answered.{ReadsAlong}
-use Rattle.regress_engine_linear.specs.AnswerTables.{told_by}
-use Rattle.regress_engine_linear.specs.Filled.{AreRight}
+use Rattle.regress_engine_linear.specs.Answered.{ReadsAlong, one_at}
+use Rattle.regress_engine_linear.specs.AnswerTables.{exits_by, told_by}
+use Rattle.regress_engine_linear.specs.Filled.{AreExitsRight, AreRight}
 use Rattle.regress_engine_linear.specs.declared.answers.Answers.{Answers}
 use Rattle.regress_engine_linear.specs.declared.walking.Station.{Station}
 
@@ -109,6 +110,14 @@ module _ (told : ℕ → ℕ → Bool) where
     ]
     led i at o = station_at (suc at) (advance program input i dir groups o)
 
+-- What is told of the exits of a one-character loop is so: behind at least one more character one of them is told of, at the address where
+-- the loop goes on.
+abbrev pub AreExitsTold : Program → View → Answers → Instruction → (from to : ℕ) → Type 0
+AreExitsTold program v a i from to = (q : ℕ) → IsAtPlace (reading_of v) q → exits_by a from q ≡ elim (advance program (input_of v) i Forward [] q) [
+  | None ↦ false
+  | Some p ↦ one_at (told_by a) to (one_by_one program (input_of v) (length v.units) i Forward [] p)
+]
+
 -- What a program and a table of answers are to be so that it may be walked along what is told.
 pub record MayWalk (flow : Flow) (h : Heights) (program : Program) (v : View) (a : Answers) : Type 0 where
   pub closed : IsFlow flow program
@@ -121,6 +130,7 @@ pub record MayWalk (flow : Flow) (h : Heights) (program : Program) (v : View) (a
   pub forward : forward_at h 0 ≡ true
   pub silent : (id : ℕ) → flow.live 0 id ≡ true → ⊥
   pub right : AreRight flow h program v a
+  pub exits : (at q : ℕ) → at < length h.ranks → forward_at h at ≡ true → q ≤ length v.units → AreExitsRight flow h program v a at q
 
 -- A way that began at an offset has come to an address and an offset, with some groups: from there a run has the answer that the run from
 -- its begin has.

@@ -15,9 +15,9 @@ ghost use Rattle.regress_engine_search.specs.Ready.{IsBody, IsReady, is_simple};
 ghost use Rattle.regress_engine_search.specs.Search.{Suits};
 ghost use Rattle.regress_engine_search.specs.StateViews.{marks_of};
 ghost use Rattle.regress_engine_linear.specs.Answered.{is_single};
-ghost use Rattle.regress_engine_linear.specs.AnswerTables.{told_by};
+ghost use Rattle.regress_engine_linear.specs.AnswerTables.{exits_by, told_by};
 ghost use Rattle.regress_engine_linear.specs.RankTables.{heights_of};
-ghost use Rattle.regress_engine_linear.specs.Walked.{MayWalk, again_at, either_of, exit_at, first_at, first_of, last_at, led, marked, station_at, written_by};
+ghost use Rattle.regress_engine_linear.specs.Walked.{AreExitsTold, MayWalk, again_at, either_of, exit_at, first_at, first_of, last_at, led, marked, station_at, written_by};
 
 use crate::answers::{Answering, Answers};
 use crate::ranks::RankTable;
@@ -157,6 +157,13 @@ impl Answers {
         }
     }
 
+    /// Whether it is told that an exit of the one-character loop at an address has an answer, behind at least one more character from an offset.
+    fn has_exit(&self, at: usize, offset: usize) -> bool
+        ensures { result ≡ exits_by self.now at offset }
+    {
+        at < self.exits.len() && self.exits[at].contains(offset)
+    }
+
     /// Where a repetition goes on, with one more iteration or behind it: the preferred one, where runs from there have an answer, else the other.
     fn either_of(&self, greedy: bool, offset: usize, more: usize, exit: usize) -> usize
         ensures { result ≡ either_of (told_by self.now) greedy offset more exit }
@@ -221,18 +228,20 @@ impl<'a, Input: ExecutorInput> Answering<'a, Input> {
         }
     }
 
-    /// The last of these offsets.
+    /// The last of these offsets, of the loop that begins at another address. It looks no further than where it is told that none is left.
     fn far_exit(
         &self,
         answers: &Answers,
         body: &Insn,
         left: usize,
+        from: usize,
         at: usize,
         near: usize,
     ) -> Option<usize>
         requires suits { Suits (program_of self.now.program.now) (Input.view self.now.input) }
         requires groups { length self.now.groups.now ≡ (program_of self.now.program.now).groups }
         requires stands { Stands (program_of self.now.program.now) (at - 1) (instruction body.now) }
+        requires exits { AreExitsTold (program_of self.now.program.now) (Input.view self.now.input) answers.now (instruction body.now) from at }
         requires body { IsBody (program_of self.now.program.now) (Input.view self.now.input) at near }
         ensures { result ≡ last_at (told_by answers.now) at (one_by_one (program_of self.now.program.now) (input_of (Input.view self.now.input)) left
             (instruction body.now) Forward (map marks_of self.now.groups.now) near) None }
@@ -246,6 +255,9 @@ impl<'a, Input: ExecutorInput> Answering<'a, Input> {
             if rest == 0 {
                 return found;
             }
+            if !answers.has_exit(from, behind) {
+                return found;
+            }
             let Some(next) = advance(self.program, &self.input, body, true, self.groups, behind)
             else {
                 return found;
@@ -255,7 +267,7 @@ impl<'a, Input: ExecutorInput> Answering<'a, Input> {
         }
     }
 
-    /// The preferred offset at which a one-character loop may be left that ends at an address, where runs have an answer from there.
+    /// The preferred offset at which a one-character loop may be left, from one address to another, where runs have an answer from there.
     fn exit(
         &self,
         answers: &Answers,
@@ -263,6 +275,7 @@ impl<'a, Input: ExecutorInput> Answering<'a, Input> {
         least: usize,
         most: usize,
         greedy: bool,
+        from: usize,
         at: usize,
         offset: usize,
     ) -> Option<usize>
@@ -270,6 +283,7 @@ impl<'a, Input: ExecutorInput> Answering<'a, Input> {
         requires groups { length self.now.groups.now ≡ (program_of self.now.program.now).groups }
         requires stands { Stands (program_of self.now.program.now) (at - 1) (instruction body.now) }
         requires body { IsBody (program_of self.now.program.now) (Input.view self.now.input) at offset }
+        requires exits { AreExitsTold (program_of self.now.program.now) (Input.view self.now.input) answers.now (instruction body.now) from at }
         requires order { least ≤ most }
         ensures { result ≡ exit_at (told_by answers.now) (program_of self.now.program.now) (input_of (Input.view self.now.input)) Forward
             (map marks_of self.now.groups.now) least most greedy (instruction body.now) at offset }
@@ -286,7 +300,7 @@ impl<'a, Input: ExecutorInput> Answering<'a, Input> {
             return None;
         };
         if greedy {
-            self.far_exit(answers, body, most - least, at, near)
+            self.far_exit(answers, body, most - least, from, at, near)
         } else {
             self.near_exit(answers, body, most - least, at, near)
         }
@@ -347,6 +361,8 @@ impl<'a, Input: ExecutorInput> Answering<'a, Input> {
             (map marks_of self.now.groups.now) offset }
         requires place { reads_character (instruction insn.now) ≡ true → IsAtPlace (reading_of (Input.view self.now.input)) offset }
         requires room { at + 1 < 2 ^ 64 }
+        requires exits { (i : Instruction) → is_single (instruction insn.now) ≡ true → Stands (program_of self.now.program.now) (at + 1) i
+            → AreExitsTold (program_of self.now.program.now) (Input.view self.now.input) answers.now i at (at + 2) }
         ensures { result ≡ led (told_by answers.now) (program_of self.now.program.now) (input_of (Input.view self.now.input)) Forward
             (map marks_of self.now.groups.now) (instruction insn.now) at offset }
     {
@@ -363,6 +379,7 @@ impl<'a, Input: ExecutorInput> Answering<'a, Input> {
                     *min_iters,
                     *max_iters,
                     *greedy,
+                    at,
                     at + 2,
                     offset,
                 );
