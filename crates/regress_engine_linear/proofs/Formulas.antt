@@ -19,7 +19,7 @@ use Rattle.regress_engine_linear.specs.Answered.{again, answer_at, behind, one_a
 use Rattle.regress_engine_linear.proofs.Running.{same-loop}
 use Rattle.regress_engine_linear.proofs.Alike.{busy}
 
-or-none : (a : Bool) → (a || false) ≡ a
+pub or-none : (a : Bool) → (a || false) ≡ a
 or-none true = refl
 or-none false = refl
 

@@ -8,4 +8,8 @@ pub mod AnswerLemmas
 pub mod Formulas
 pub mod ExitAnswers
 pub mod WorkLemmas
+pub mod Within
+pub mod FillLemmas
+pub mod NextPlaces
+pub mod DecidingLinear
 pub mod WalkLemmas

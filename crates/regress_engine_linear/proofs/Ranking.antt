@@ -14,7 +14,7 @@ use Rattle.regress_engine_memory.specs.Deciding.{Table, calm_at, flow_of, live_a
 use Rattle.regress_engine_memory.specs.Needs.{taken_by}
 use Rattle.regress_engine_memory.proofs.TableLemmas.{each-passes}
 use Rattle.regress_engine_linear.specs.Ranks.{Lowers, Inside, IsCycle, Ranks, AreRanked}
-use Rattle.regress_engine_linear.specs.RankTables.{Heights, rank_at, forward_at, top_of, ranking_of, is_read, lowers, turns, holds_inside, is_cycle, cycles, ranks, ranks_if_calm, are_ranked}
+use Rattle.regress_engine_linear.specs.RankTables.{Heights, rank_at, forward_at, top_of, ranking_of, is_apart, is_read, lowers, turns, holds_inside, is_cycle, cycles, ranks, ranks_if_calm, are_ranked}
 use Rattle.regress_engine_linear.proofs.Running.{fields-stand}
 
 -- what is not so, or another thing is, is another thing where it is so
@@ -78,13 +78,16 @@ module _ (h : Heights) (t : Table) where
 
   inside-so : (kind : Submatch) (at : ℕ) → holds_inside h kind at ≡ true → Inside (ranking_of h) kind at
   inside-so kind at e =
-      let both = and_parts (turns h kind at) (nat_lt (rank_at h (suc at)) (rank_at h at) || (forward_at h at && not (forward_at h (suc at)))) e in
+      let both = and_parts (turns h kind at) (is_apart h at) e in
       let read = turns-so kind at both.0 in
       record {
         within = read.0;
         way = read.1;
-        rank = elim (or_cases (nat_lt (rank_at h (suc at)) (rank_at h at)) (forward_at h at && not (forward_at h (suc at))) both.1) [
-          | inl less ↦ inl (ltb-true (rank_at h (suc at)) (rank_at h at) less)
+        rank = elim (or_cases (is_read h (forward_at h at) (suc at) && nat_lt (rank_at h (suc at)) (rank_at h at)) (forward_at h at && not (forward_at h (suc at))) both.1) [
+          | inl lower ↦ inl (
+            let two = and_parts (is_read h (forward_at h at) (suc at)) (nat_lt (rank_at h (suc at)) (rank_at h at)) lower in
+            ((read-so (forward_at h at) (suc at) two.0).1, ltb-true (rank_at h (suc at)) (rank_at h at) two.1)
+          )
           | inr turned ↦ inr (let two = and_parts (forward_at h at) (not (forward_at h (suc at))) turned in (two.0, not-so (forward_at h (suc at)) two.1))
         ];
       }

@@ -1,7 +1,7 @@
 -- From each state of the way on it goes where a run has the same answer.
 use Rattle.std.specs.Prelude.{is_some, map, nat_lt, nat_le, option_and_then, reverse, slice_get, slice_set}
 use Rattle.std.specs.List.{AllByRecursion}
-use Rattle.std.proofs.Common.{◌≡◌, ◌⊎◌, inl, inr, ℕ, zero, suc, ◌+◌, ◌-◌, ◌*◌, ◌<◌, ◌≤◌, ◌&&◌, Bool, true, false, List, [], ◌∷◌, ◌++◌, All, length, get_or, Option, None, Some, if◌then◌else◌, refl, sym, ap, ap₂, ◌∙◌, subst, arith, append-nil, get_or-set_same, length-append, length-drop, replicate, take}
+use Rattle.std.proofs.Common.{◌≡◌, ◌⊎◌, inl, inr, ℕ, zero, suc, ◌+◌, ◌-◌, ◌*◌, ◌^◌, ◌<◌, ◌≤◌, ◌&&◌, ◌||◌, Bool, true, false, List, [], ◌∷◌, ◌++◌, All, length, get_or, Option, None, Some, if◌then◌else◌, refl, sym, ap, ap₂, ◌∙◌, subst, arith, append-nil, get_or-set_same, length-append, length-drop, replicate, take}
 use Rattle.std.proofs.lemmas.Bool.{leb-true, lt-ltb, ltb-true}
 use Rattle.std.proofs.lemmas.List.{reverse-append}
 use Rattle.std.proofs.lemmas.List.Elements.{All-cons, All-nil, All-weaker}
@@ -20,7 +20,7 @@ use Rattle.regress_engine_insn.specs.Instructions as code
 use Rattle.regress_engine_runs.specs.States.{Marks, Whole, first_state, mixed, onward, unset}
 use Rattle.regress_engine_runs.specs.Runs.{Run, finds, goes, looks, advance, after_submatch, after_times, as_far, choices, count_of, counted, entered, fields_of, given_back, is_idle, is_plain, moved_to, one_by_one, one_more, ordered, room, successors}
 use Rattle.regress_engine_runs.specs.Closed.{Fits, takes_character}
-use Rattle.regress_engine_runs.specs.Meets.{Meets, IsAtPlace, behind, now, reads_character, referred}
+use Rattle.regress_engine_runs.specs.Meets.{Meets, IsAtPlace, ReadsPlaces, behind, now, reads_character, referred}
 use Rattle.regress_engine_runs.specs.UndoStack.{whole, at_each}
 use Rattle.regress_engine_runs.proofs.Computed.{one_run}
 use Rattle.regress_engine_runs.proofs.Parts.{meets-first, meets-others, run-behind, some-then}
@@ -38,20 +38,23 @@ use Rattle.regress_engine_memory.specs.Under.{IsFurther}
 use Rattle.regress_engine_memory.proofs.EachState.{each-again, each-at, each-choices}
 use Rattle.regress_engine_memory.proofs.Exits.{All-turned}
 use Rattle.regress_engine_memory.proofs.Onward.{flows-unreferring, room-less}
-use Rattle.regress_engine_memory.proofs.Taking.{after-on, taking-unreferring}
+use Rattle.regress_engine_memory.proofs.Taking.{advance-takes, after-on, one-takes, taking-unreferring}
 use Rattle.regress_engine_memory.proofs.Unreferring.{advance-any, counted-any}
 use Rattle.regress_engine_linear.specs.Ranks.{Ranking, Ranks, Lowers, IsCycle, AreRunning, IsBeyond}
-use Rattle.regress_engine_linear.specs.RankTables.{Heights, rank_at, ranking_of}
-use Rattle.regress_engine_linear.specs.Answered.{Ends, IsAnswered, ReadsAlong}
-use Rattle.regress_engine_linear.specs.AnswerTables.{told_by}
-use Rattle.regress_engine_linear.specs.Walked.{IsOnWay, IsPassedPlainly, MayWalk, again_at, either_of, exit_at, first_at, first_of, last_at, led, marked, station_at, written_by}
+use Rattle.regress_engine_linear.specs.RankTables.{ArePlaced, Heights, forward_at, rank_at, ranking_of}
+use Rattle.regress_engine_linear.specs.Answered.{Ends, IsAnswered, ReadsAlong, is_single, one_at}
+use Rattle.regress_engine_linear.specs.AnswerTables.{exits_by, told_by}
+use Rattle.regress_engine_linear.specs.Filled.{AreRight, IsExitRight}
+use Rattle.regress_engine_linear.specs.Linear.{IsLinear, LeavesGroups}
+use Rattle.regress_engine_linear.specs.Walked.{AreExitsKnown, AreExitsTold, IsOnWay, MayWalk, again_at, either_of, exit_at, first_at, first_of, last_at, led, marked, station_at, written_by}
 use Rattle.regress_engine_linear.specs.declared.answers.Answers.{Answers}
 use Rattle.regress_engine_linear.specs.declared.walking.Station.{Station}
 use Rattle.regress_engine_linear.proofs.Alike.{busy}
 use Rattle.regress_engine_linear.proofs.AnswerLemmas.{reads-on, run-onward}
-use Rattle.regress_engine_linear.proofs.Beyond.{goes-beyond}
+use Rattle.regress_engine_linear.proofs.Beyond.{each-weaker, leads-beyond}
 use Rattle.regress_engine_linear.proofs.FromStart.{running-first}
 use Rattle.regress_engine_linear.proofs.Running.{fields-stand, running-behind, running-step, same-loop}
+use Rattle.regress_engine_linear.proofs.Within.{each-lies}
 use Rattle.regress_engine_linear.proofs.WorkLemmas.{reads-there}
 
 -- ---- what is told of some offsets
@@ -155,128 +158,37 @@ filled f new old n l x y is none empty same =
     let count : n - l ≡ n = omega (arith, empty) in
     ap (map f) (is ∙ ap₂ (λ xs m. xs ++ replicate m x) (take-none n old none) count) ∙ map-replicate f n x ∙ ap (replicate n) same
 
--- ---- what lies in the text
+-- ---- which exit is preferred
 
-module _ (v : View) (all : AreOfKind v.kind v.units) where
-  abbrev LiesAt : ℕ → Type 0
-  LiesAt q = q ≤ length v.units
-
-  passed-lies : (dir : Direction) (test : ℕ → Bool) (o q : ℕ) → IsAtPlace (reading_of v) o → passed test ((input_of v).next dir o) ≡ Some q → LiesAt q
-  passed-lies dir test o q place e = by_value ((input_of v).next dir o) refl e
+-- the exits of a one-character loop
+module _ (v : View) (all : AreOfKind v.kind v.units) (program : Program) (suits : Suits program v) (groups : List Marks) (at : ℕ) (i : Instruction) (there : Stands program (at - 1) i) (takes : takes_character i ≡ true) where
+  -- the one that is preferred is the first of them that is told of
+  exit-is : (told : ℕ → ℕ → Bool) (to : ℕ) (least most : ℕ) (greedy : Bool) (o : ℕ) → IsBody program v at o
+      → exit_at told program (input_of v) Forward groups least most greedy i to o ≡ first_at told to (counted program (input_of v) least most greedy i Forward groups o)
+  exit-is told to least most greedy o body = by_near (after_times program (input_of v) least i Forward groups o) refl
     where
-      by_test : (b : Bool) (c p : ℕ) → (input_of v).next dir o ≡ Some (c, p) → (if b then Some p else None) ≡ Some q → LiesAt q
-      by_test true c p here h = let same : p ≡ q = cc in subst LiesAt same (place-lies v all p (next-place v all dir o c p place here))
-      by_test false c p here h = absurd (cc h)
+      by_way : (near : ℕ) → IsBody program v at near → (g : Bool)
+          → (if g then last_at told to (one_by_one program (input_of v) (most - least) i Forward groups near) None
+          else first_at told to (one_by_one program (input_of v) (most - least) i Forward groups near))
+          ≡ first_at told to (if g then given_back (input_of v) Forward near (as_far program (input_of v) (most - least) i Forward groups near)
+          else one_by_one program (input_of v) (most - least) i Forward groups near)
+      by_way near here true =
+          last-first told to (one_by_one program (input_of v) (most - least) i Forward groups near)
+          ∙ ap (first_at told to) (sym (given-back v all program suits Forward groups at i (most - least) near here there))
+      by_way near here false = refl
 
-      by_value : (x : Option (ℕ × ℕ)) → (input_of v).next dir o ≡ x → passed test x ≡ Some q → LiesAt q
-      by_value None here h = absurd (cc h)
-      by_value (Some (c, p)) here h = by_test (test c) c p here h
-
-  edge-lies : (b : Bool) (o q : ℕ) → LiesAt o → only_if b o ≡ Some q → LiesAt q
-  edge-lies true o q lies e = let same : o ≡ q = cc in subst LiesAt same lies
-  edge-lies false o q lies e = absurd (cc e)
-
-  literal-lies : (input : Input) (bs : List ℕ) (o q : ℕ) → o ≤ length input.units → literal input Forward bs o ≡ Some q → q ≤ length input.units
-  literal-lies input bs o q lies e = by_test (stands_right input.units o bs) refl e
-    where
-      by_test : (b : Bool) → stands_right input.units o bs ≡ b → (if b then Some (o + length bs) else None) ≡ Some q → q ≤ length input.units
-      by_test true there h =
-          let split = right-split input.units o bs there in
-          let size = ap length split.1 in
-          let x = length-append bs split.0 in
-          let y = length-drop o input.units in
-          let same : o + length bs ≡ q = cc in
-          omega (arith, same, size, x, y, lies)
-      by_test false there h = absurd (cc h)
-
-  bytes-lie : (bs : List ℕ) (o q : ℕ) → LiesAt o → literal (input_of v) Forward bs o ≡ Some q → LiesAt q
-  bytes-lie bs o q lies e =
-      let same : length (input_of v).units ≡ length v.units = ap length (units-are v) in
-      subst (λ n. q ≤ n) same (literal-lies (input_of v) bs o q (subst (λ n. o ≤ n) (sym same) lies) e)
-
-  -- behind an instruction that refers to no group
-  advance-lies : (program : Program) (i : Instruction) (groups : List Marks) (o q : ℕ) → referred i ≡ None → (reads_character i ≡ true → IsAtPlace (reading_of v) o) → LiesAt o
-      → advance program (input_of v) i Forward groups o ≡ Some q → LiesAt q
-  advance-lies program (code.char c) groups o q calm place lies e = passed-lies Forward _ o q (place refl) e
-  advance-lies program (code.char_set cs) groups o q calm place lies e = passed-lies Forward _ o q (place refl) e
-  advance-lies program (code.byte_set bs) groups o q calm place lies e = passed-lies Forward _ o q (place refl) e
-  advance-lies program (code.byte_seq bs) groups o q calm place lies e = bytes-lie bs o q lies e
-  advance-lies program code.any groups o q calm place lies e = passed-lies Forward (λ c. true) o q (place refl) e
-  advance-lies program code.any_in_line groups o q calm place lies e = passed-lies Forward _ o q (place refl) e
-  advance-lies program (code.bracket k) groups o q calm place lies e = by_bracket (slice_get program.brackets k) e
-    where
-      by_bracket : (x : Option (Bool × List (ℕ × ℕ))) → option_and_then (λ b. passed (bracket_has b.0 b.1) ((input_of v).next Forward o)) x ≡ Some q → LiesAt q
-      by_bracket None h = absurd (cc h)
-      by_bracket (Some b) h = passed-lies Forward (bracket_has b.0 b.1) o q (place refl) h
-  advance-lies program (code.ascii_bracket cs) groups o q calm place lies e = passed-lies Forward _ o q (place refl) e
-  advance-lies program (code.line_start multiline) groups o q calm place lies e = edge-lies _ o q lies e
-  advance-lies program (code.line_end multiline) groups o q calm place lies e = edge-lies _ o q lies e
-  advance-lies program (code.boundary inverted folded) groups o q calm place lies e = edge-lies _ o q lies e
-  advance-lies program (code.back k icase) groups o q calm place lies e = absurd (cc calm)
-  advance-lies program _ groups o q calm place lies e = absurd (cc e)
-
-  -- the exits of a one-character loop
-  module _ (program : Program) (suits : Suits program v) (groups : List Marks) (at : ℕ) (i : Instruction) (there : Stands program (at - 1) i) (takes : takes_character i ≡ true) where
-    ones-lie : (n o : ℕ) → IsBody program v at o → All LiesAt (one_by_one program (input_of v) n i Forward groups o)
-    unfolding one_by_one
-    ones-lie zero o body = All-cons LiesAt o [] (place-lies v all o body.3) (All-nil LiesAt)
-    ones-lie (suc n) o body = by_value (advance program (input_of v) i Forward groups o) refl (ones-lie n)
-      where
-        by_value : (x : Option ℕ) → advance program (input_of v) i Forward groups o ≡ x
-            → ((q : ℕ) → IsBody program v at q → All LiesAt (one_by_one program (input_of v) n i Forward groups q))
-            → All LiesAt (o ∷ elim x [ None ↦ [] | Some q ↦ one_by_one program (input_of v) n i Forward groups q ])
-        by_value None here rest = All-cons LiesAt o [] (place-lies v all o body.3) (All-nil LiesAt)
-        by_value (Some q) here rest =
-            All-cons LiesAt o (one_by_one program (input_of v) n i Forward groups q) (place-lies v all o body.3)
-            (rest q (body-next v all program suits at o q i Forward groups body there here))
-
-    counted-lie : (least most : ℕ) (greedy : Bool) (o : ℕ) → IsBody program v at o → All LiesAt (counted program (input_of v) least most greedy i Forward groups o)
-    counted-lie least most greedy o body = by_near (after_times program (input_of v) least i Forward groups o) refl
-      where
-        by_way : (near : ℕ) → IsBody program v at near → (g : Bool)
-            → All LiesAt (if g then given_back (input_of v) Forward near (as_far program (input_of v) (most - least) i Forward groups near)
-            else one_by_one program (input_of v) (most - least) i Forward groups near)
-        by_way near here true =
-            subst (All LiesAt) (sym (given-back v all program suits Forward groups at i (most - least) near here there))
-            (All-turned LiesAt (one_by_one program (input_of v) (most - least) i Forward groups near) (ones-lie (most - least) near here))
-        by_way near here false = ones-lie (most - least) near here
-
-        by_near : (x : Option ℕ) → after_times program (input_of v) least i Forward groups o ≡ x
-            → All LiesAt (elim x [
-              | None ↦ []
-              | Some near ↦ if greedy then given_back (input_of v) Forward near (as_far program (input_of v) (most - least) i Forward groups near)
-                  else one_by_one program (input_of v) (most - least) i Forward groups near
-            ])
-        by_near None here = All-nil LiesAt
-        by_near (Some near) here = by_way near (after-on v all program suits Forward groups at i there takes least o near body here).1 greedy
-
-    -- the one that is preferred is the first of them that is told of
-    exit-is : (told : ℕ → ℕ → Bool) (to : ℕ) (least most : ℕ) (greedy : Bool) (o : ℕ) → IsBody program v at o
-        → exit_at told program (input_of v) Forward groups least most greedy i to o ≡ first_at told to (counted program (input_of v) least most greedy i Forward groups o)
-    exit-is told to least most greedy o body = by_near (after_times program (input_of v) least i Forward groups o) refl
-      where
-        by_way : (near : ℕ) → IsBody program v at near → (g : Bool)
-            → (if g then last_at told to (one_by_one program (input_of v) (most - least) i Forward groups near) None
-            else first_at told to (one_by_one program (input_of v) (most - least) i Forward groups near))
-            ≡ first_at told to (if g then given_back (input_of v) Forward near (as_far program (input_of v) (most - least) i Forward groups near)
-            else one_by_one program (input_of v) (most - least) i Forward groups near)
-        by_way near here true =
-            last-first told to (one_by_one program (input_of v) (most - least) i Forward groups near)
-            ∙ ap (first_at told to) (sym (given-back v all program suits Forward groups at i (most - least) near here there))
-        by_way near here false = refl
-
-        by_near : (x : Option ℕ) → after_times program (input_of v) least i Forward groups o ≡ x
-            → elim x [
-              | None ↦ None
-              | Some near ↦ if greedy then last_at told to (one_by_one program (input_of v) (most - least) i Forward groups near) None
-                  else first_at told to (one_by_one program (input_of v) (most - least) i Forward groups near)
-            ] ≡ first_at told to (elim x [
-              | None ↦ []
-              | Some near ↦ if greedy then given_back (input_of v) Forward near (as_far program (input_of v) (most - least) i Forward groups near)
-                  else one_by_one program (input_of v) (most - least) i Forward groups near
-            ])
-        by_near None here = refl
-        by_near (Some near) here = by_way near (after-on v all program suits Forward groups at i there takes least o near body here).1 greedy
+      by_near : (x : Option ℕ) → after_times program (input_of v) least i Forward groups o ≡ x
+          → elim x [
+            | None ↦ None
+            | Some near ↦ if greedy then last_at told to (one_by_one program (input_of v) (most - least) i Forward groups near) None
+                else first_at told to (one_by_one program (input_of v) (most - least) i Forward groups near)
+          ] ≡ first_at told to (elim x [
+            | None ↦ []
+            | Some near ↦ if greedy then given_back (input_of v) Forward near (as_far program (input_of v) (most - least) i Forward groups near)
+                else one_by_one program (input_of v) (most - least) i Forward groups near
+          ])
+      by_near None here = refl
+      by_near (Some near) here = by_way near (after-on v all program suits Forward groups at i there takes least o near body here).1 greedy
 
 -- ---- where a one-character loop stands
 
@@ -303,6 +215,132 @@ single-stands v program suits at least most greedy here =
     let (i, there, takes, order) = suits.closed at (code.single_loop least most greedy) here in
     let next : suc at ≡ at + 1 = omega arith in
     (i, subst (λ b. Stands program b i) next there)
+
+-- ---- where no exit is left
+
+none-last : (told : ℕ → ℕ → Bool) (at : ℕ) (os : List ℕ) (found : Option ℕ) → one_at told at os ≡ false → last_at told at os found ≡ found
+none-last told at [] found none = refl
+none-last told at (o ∷ os) found none = by_told (told at o) none (none-last told at os found)
+  where
+    by_told : (b : Bool) → (b || one_at told at os) ≡ false → (one_at told at os ≡ false → last_at told at os found ≡ found) → last_at told at os (if b then Some o else found) ≡ found
+    by_told true e rest = absurd (cc e)
+    by_told false e rest = rest e
+
+module _ (v : View) (program : Program) (i : Instruction) (takes : takes_character i ≡ true) (gs : List Marks) (told : ℕ → ℕ → Bool) (at : ℕ) where
+  abbrev exits-from : ℕ → ℕ → List ℕ
+  exits-from n o = one_by_one program (input_of v) n i Forward gs o
+
+  -- Where none of all exits is told of, none of some is.
+  none-of : (n m o : ℕ) → room (length v.units) Forward o ≤ m → one_at told at (exits-from m o) ≡ false → one_at told at (exits-from n o) ≡ false
+  unfolding one_by_one
+  none-of zero zero o few none = none
+  none-of zero (suc m) o few none = by_told (told at o) none
+    where
+      by_told : (b : Bool) → (b || one_at told at (elim (advance program (input_of v) i Forward gs o) [ None ↦ [] | Some q ↦ one_by_one program (input_of v) m i Forward gs q ])) ≡ false
+          → (b || false) ≡ false
+      by_told true e = absurd (cc e)
+      by_told false e = refl
+  none-of (suc n) zero o few none = by_value (advance program (input_of v) i Forward gs o) refl
+    where
+      by_value : (x : Option ℕ) → advance program (input_of v) i Forward gs o ≡ x
+          → one_at told at (o ∷ elim x [ None ↦ [] | Some q ↦ one_by_one program (input_of v) n i Forward gs q ]) ≡ false
+      by_value None here = none
+      by_value (Some q) here =
+          let left = (advance-takes v program i Forward gs o q (taking-unreferring i takes) here).1 in let one = one-takes i takes in absurd (omega (arith, few, left, one))
+  none-of (suc n) (suc m) o few none = by_value (advance program (input_of v) i Forward gs o) refl none (none-of n m)
+    where
+      by_value : (x : Option ℕ) → advance program (input_of v) i Forward gs o ≡ x
+          → one_at told at (o ∷ elim x [ None ↦ [] | Some q ↦ one_by_one program (input_of v) m i Forward gs q ]) ≡ false
+          → ((q : ℕ) → room (length v.units) Forward q ≤ m → one_at told at (exits-from m q) ≡ false → one_at told at (exits-from n q) ≡ false)
+          → one_at told at (o ∷ elim x [ None ↦ [] | Some q ↦ one_by_one program (input_of v) n i Forward gs q ]) ≡ false
+      by_value None here none rest = none
+      by_value (Some q) here none rest =
+          let left = (advance-takes v program i Forward gs o q (taking-unreferring i takes) here).1 in
+          let one = one-takes i takes in
+          by_told (told at o) none (rest q (omega (arith, few, left, one)))
+        where
+          by_told : (b : Bool) → (b || one_at told at (exits-from m q)) ≡ false → (one_at told at (exits-from m q) ≡ false → one_at told at (exits-from n q) ≡ false)
+              → (b || one_at told at (exits-from n q)) ≡ false
+          by_told true e more = absurd (cc e)
+          by_told false e more = more e
+
+  -- So the last of some is the first of them, or another, where none of all behind it is.
+  pub far-none : (n o : ℕ) (found : Option ℕ)
+      → elim (advance program (input_of v) i Forward gs o) [ None ↦ false | Some q ↦ one_at told at (one_by_one program (input_of v) (length v.units) i Forward gs q) ] ≡ false
+      → last_at told at (exits-from n o) found ≡ (if told at o then Some o else found)
+  unfolding one_by_one
+  far-none zero o found none = refl
+  far-none (suc n) o found none = by_value (advance program (input_of v) i Forward gs o) none
+    where
+      next : Option ℕ
+      next = if told at o then Some o else found
+
+      by_value : (x : Option ℕ) → elim x [ None ↦ false | Some q ↦ one_at told at (one_by_one program (input_of v) (length v.units) i Forward gs q) ] ≡ false
+          → last_at told at (elim x [ None ↦ [] | Some q ↦ one_by_one program (input_of v) n i Forward gs q ]) next ≡ next
+      by_value None e = refl
+      by_value (Some q) e = none-last told at (exits-from n q) next (none-of n (length v.units) q (omega arith) e)
+
+-- what takes a character does so whatever the groups are, one by one
+ones-free : (program : Program) (input : Input) (i : Instruction) (dir : Direction) (gs hs : List Marks) → referred i ≡ None → (n o : ℕ)
+    → one_by_one program input n i dir gs o ≡ one_by_one program input n i dir hs o
+unfolding after_times
+ones-free program input i dir gs hs calm n o =
+    let all : n - 0 ≡ n = omega arith in
+    ap (λ k. one_by_one program input k i dir gs o) (sym all) ∙ counted-any program input i dir gs hs calm 0 n false o ∙ ap (λ k. one_by_one program input k i dir hs o) all
+
+-- what is told of exits, with the groups that are asked
+pub exits-told-of : (flow : Flow) (h : Heights) (program : Program) (v : View) (a : Answers) (at : ℕ) → ((o : ℕ) → o ≤ length v.units → IsExitRight flow h program v a at o)
+    → AreOfKind v.kind v.units → forward_at h at ≡ true → (least most : ℕ) (greedy : Bool) (i : Instruction) → Stands program at (code.single_loop least most greedy) → takes_character i ≡ true
+    → Stands program (at + 1) i → (gs : List Marks) → AreExitsTold program v gs a i at (at + 2)
+exits-told-of flow h program v a at right all forward least most greedy i here takes stands gs o place =
+    right o (place-lies v all o place) least most greedy i here (subst (λ b. Stands program b i) one stands) place
+    ∙ ap (λ (b : Bool). beyond (direction_of b) [] (suc (suc at))) forward
+    ∙ ap (beyond Forward []) two
+    ∙ by_value (advance program (input_of v) i Forward [] o) (advance program (input_of v) i Forward gs o) (advance-any program (input_of v) i Forward [] gs o calm)
+  where
+    calm : referred i ≡ None
+    calm = taking-unreferring i takes
+
+    one : at + 1 ≡ suc at
+    one = omega arith
+
+    two : suc (suc at) ≡ at + 2
+    two = omega arith
+
+    beyond : Direction → List Marks → (to : ℕ) → Bool
+    beyond dir hs to = elim (advance program (input_of v) i dir hs o) [
+      | None ↦ false
+      | Some q ↦ one_at (told_by a) to (one_by_one program (input_of v) (length v.units) i dir hs q)
+    ]
+
+    reads : List Marks → Option ℕ → Bool
+    reads hs x = elim x [ None ↦ false | Some q ↦ one_at (told_by a) (at + 2) (one_by_one program (input_of v) (length v.units) i Forward hs q) ]
+
+    by_value : (x y : Option ℕ) → x ≡ y → reads [] x ≡ reads gs y
+    by_value x y e = ap (reads []) e ∙ same y
+      where
+        same : (y : Option ℕ) → reads [] y ≡ reads gs y
+        same None = refl
+        same (Some q) = ap (one_at (told_by a) (at + 2)) (ones-free program (input_of v) i Forward [] gs calm (length v.units) q)
+
+-- a linear program may be walked, where a table tells what is so
+pub may-walk : (flow : Flow) (h : Heights) (program : Program) (v : View) (a : Answers) → IsLinear flow h program → suc (length v.units) < 2 ^ 64 - 1 → AreRight flow h program v a
+    → AreExitsKnown flow h program v a → 0 < length program.instructions → MayWalk flow h program v a
+may-walk flow h program v a linear short right exits there =
+    let count = linear.count in
+    record {
+      closed = linear.flows;
+      ranked = linear.ranked;
+      placed = subst (ArePlaced h) (sym linear.count) linear.placed;
+      unbounded = λ at f here. let most = linear.unbounded at f here in omega (arith, most, short);
+      leaves = linear.leaves;
+      there = omega (arith, count, there);
+      calm = linear.calm 0 there;
+      forward = linear.begins;
+      silent = linear.silent;
+      right = right;
+      exits = exits;
+    }
 
 -- ---- small facts
 
@@ -455,49 +493,6 @@ module _ (flow : Flow) (h : Heights) (v : View) (all : AreOfKind v.kind v.units)
         same None good rest = absurd (none-left rest)
         same (Some q) good rest = (ls, rest, good.0)
 
-  -- each state that an instruction leads to lies in the text
-  lies-step : (s : Whole) (i : Instruction) → Live s → s.offset ≤ last → Stands program s.at i → is_plain i ≡ true → (reads_character i ≡ true → IsAtPlace (reading_of v) s.offset)
-      → AllByRecursion Lies (successors program input i Forward s)
-  lies-step s code.goal live within here plain place = absurd (cc plain)
-  lies-step s code.fail live within here plain place = tt
-  lies-step s (code.back k icase) live within here plain place = absurd (may.ranked s.at (code.back k icase) live.calm here)
-  lies-step s (code.submatch kind low high continuation) live within here plain place = absurd (cc plain)
-  lies-step s (code.jump b) live within here plain place = (((may.ranked s.at (code.jump b) live.calm here).within, within), tt)
-  lies-step s (code.alt b) live within here plain place = let lowers = may.ranked s.at (code.alt b) live.calm here in ((lowers.0.within, within), ((lowers.1.within, within), tt))
-  lies-step s (code.begin_group k) live within here plain place = (((may.ranked s.at (code.begin_group k) live.calm here).within, within), tt)
-  lies-step s (code.end_group k) live within here plain place = (((may.ranked s.at (code.end_group k) live.calm here).within, within), tt)
-  lies-step s (code.reset_group k) live within here plain place = (((may.ranked s.at (code.reset_group k) live.calm here).within, within), tt)
-  lies-step s (code.enter_loop f) live within here plain place =
-      let cycle = may.ranked s.at (code.enter_loop f) live.calm here in
-      each-choices Lies f s.at (entered input Forward f s) (cycle.more.within, within) (cycle.out.within, within)
-  lies-step s (code.loop_again begin) live within here plain place =
-      each-again Lies (fields_of (slice_get program.instructions begin)) begin s
-      (λ f is. by_cycle f (fields-stand (slice_get program.instructions begin) f is) (may.ranked s.at (code.loop_again begin) live.calm here))
-    where
-      by_cycle : (f : LoopFields) → Stands program begin (code.enter_loop f) → Ranks flow r program s.at (code.loop_again begin) → Lies (one_more f.loop_id begin s) × Lies (record s { at = f.exit })
-      by_cycle f there (g, stands, cycle) =
-          let mine : IsCycle flow r s.at begin f = subst (IsCycle flow r s.at begin) (same-loop program begin g f stands there) cycle in
-          ((mine.more.within, within), (mine.out.within, within))
-  lies-step s (code.single_loop least most greedy) live within here plain place =
-      let (i, stands, takes, order) = suits.closed s.at (code.single_loop least most greedy) here in
-      let before : suc s.at ≡ suc (suc s.at) - 1 = omega arith in
-      let there : Stands program (suc (suc s.at) - 1) i = subst (λ b. Stands program b i) before stands in
-      let body : IsBody program v (suc (suc s.at)) s.offset = (i, there, takes, place refl, omega arith) in
-      let low = (may.ranked s.at (code.single_loop least most greedy) live.calm here).within in
-      subst (λ (x : Option Instruction). AllByRecursion Lies (elim x [
-        | None ↦ []
-        | Some j ↦ map (λ o. record s { at = suc (suc s.at); offset = o }) (counted program input least most greedy j Forward s.groups s.offset)
-      ])) (sym stands)
-      (each-at Lies s (suc (suc s.at)) (counted program input least most greedy i Forward s.groups s.offset)
-      (All-weaker (LiesAt v all) (λ q. Lies (record s { at = suc (suc s.at); offset = q })) (λ q lies. (low, lies)) (counted program input least most greedy i Forward s.groups s.offset)
-      (counted-lie v all program suits s.groups (suc (suc s.at)) i there takes least most greedy s.offset body)))
-  lies-step s i live within here plain place = by_value (advance program input i Forward s.groups s.offset) refl
-    where
-      by_value : (x : Option ℕ) → advance program input i Forward s.groups s.offset ≡ x → AllByRecursion Lies (moved_to s x)
-      by_value None e = tt
-      by_value (Some q) e =
-          (((may.ranked s.at i live.calm here).within, advance-lies v all program i s.groups s.offset q (flows-unreferring flow program s.at i (may.closed s.at i live.calm here)) place within e), tt)
-
   module _ (start at o : ℕ) (gs : List Marks) (way : IsOnWay flow h program v start at o gs) (hs : List Marks) where
     abbrev s : Whole
     s = whole at o way.loops gs
@@ -598,13 +593,24 @@ module _ (flow : Flow) (h : Heights) (v : View) (all : AreOfKind v.kind v.units)
     plain-on : (i : Instruction) → Stands program at i → is_plain i ≡ true → LeadsOn i
     plain-on i here plain = by_kind i here plain good rest
       where
-        good : AllByRecursion GoodHere (successors program input i Forward s)
+        us : List Whole
+        us = successors program input i Forward s
+
+        reads : reads_character i ≡ true → ReadsPlaces (reading_of v) i s
+        reads = way.reads s i now here
+
+        On : Whole → Type 0
+        On u = IsBeyond r last Forward s u × (u.at < length h.ranks) × (r.forward u.at ≡ r.forward at)
+
+        In : Whole → Type 0
+        In u = u.offset ≤ last
+
+        good : AllByRecursion GoodHere us
         good =
-            each-both Live (λ u. IsBeyond r last Forward s u × Lies u) (successors program input i Forward s)
-            (running-step flow r v all program suits may.closed may.ranked Forward s i way.running here plain (way.reads s i now here))
-            (each-both (IsBeyond r last Forward s) Lies (successors program input i Forward s)
-            (goes-beyond flow r v all program suits may.closed may.ranked Forward s i way.running.calm here plain (way.reads s i now here))
-            (lies-step s i way.running way.within here plain (place-here i here)))
+            each-weaker (λ u. Live u × (On u × In u)) GoodHere (λ u both. (both.0, (both.1.0.0, (both.1.0.1, both.1.1)))) us
+            (each-both Live (λ u. On u × In u) us (running-step flow r v all program suits may.closed may.ranked Forward s i way.running here plain reads)
+            (each-both On In us (leads-beyond flow r v all program suits may.closed may.ranked Forward s i way.running.calm here plain reads)
+            (each-lies v all program suits Forward i s (flows-unreferring flow program at i (may.closed at i way.running.calm here)) here plain way.within (place-here i here))))
 
         rest : Rest w s (successors program input i Forward s)
         rest =
@@ -614,7 +620,7 @@ module _ (flow : Flow) (h : Heights) (v : View) (all : AreOfKind v.kind v.units)
     -- past a lookaround
     look-on : (kind : Submatch) (low high continuation : ℕ) → Stands program at (code.submatch kind low high continuation) → LeadsOn (code.submatch kind low high continuation)
     look-on kind low high continuation here =
-        by_look kind here (may.plain at (code.submatch kind low high continuation) here)
+        by_look kind here (may.leaves at low high continuation kind here)
         (run_looks program input (code.submatch kind low high continuation) here refl (λ e. absurd (cc e)) way.run)
       where
         lowers : Lowers r 0 at continuation
@@ -627,7 +633,7 @@ module _ (flow : Flow) (h : Heights) (v : View) (all : AreOfKind v.kind v.units)
         )
 
         by_answer : (negated backward : Bool) (q : Option Whole) → Stands program at (code.submatch (lookaround negated backward) low high continuation)
-            → IsPassedPlainly (code.submatch (lookaround negated backward) low high continuation)
+            → LeavesGroups (lookaround negated backward) low high
             → Rest w s (after_submatch (lookaround negated backward) low high continuation s q) → Comes w s continuation o gs
         by_answer true backward None there plain rest = (way.loops, rest, good gs)
         by_answer true backward (Some t) there plain rest = absurd (none-left w s rest)
@@ -635,7 +641,7 @@ module _ (flow : Flow) (h : Heights) (v : View) (all : AreOfKind v.kind v.units)
         by_answer false backward (Some t) there plain rest =
             subst (λ (ms : List Marks). Comes w s continuation o ms) (mixed-none 0 low high t.groups gs plain) (way.loops, rest, good (mixed 0 low high t.groups gs))
 
-        by_look : (kind : Submatch) → Stands program at (code.submatch kind low high continuation) → IsPassedPlainly (code.submatch kind low high continuation)
+        by_look : (kind : Submatch) → Stands program at (code.submatch kind low high continuation) → LeavesGroups kind low high
             → AtLook program input Forward s [] way.steps (Some w) (code.submatch kind low high continuation) → Comes w s continuation o gs
         by_look atomic there plain parts = absurd plain
         by_look (lookaround negated backward) there plain (q, m, k, count, inner, next) =
@@ -698,6 +704,22 @@ module _ (flow : Flow) (h : Heights) (v : View) (all : AreOfKind v.kind v.units)
 
     pub reads-here : (i : Instruction) → Stands program at i → reads_character i ≡ true → IsAtPlace (reading_of v) o
     reads-here i here reads = (way.reads here-now i now here reads).0
+
+    -- what is told of the exits of a one-character loop that stands there is so
+    pub exits-here : (hs : List Marks) (i : Instruction) → Stands program at i → (j : Instruction) → is_single i ≡ true → Stands program (at + 1) j → AreExitsTold program v hs a j at (at + 2)
+    exits-here hs (code.single_loop least most greedy) here j single stands =
+        let (k, there, takes, order) = suits.closed at (code.single_loop least most greedy) here in
+        let one : at + 1 ≡ suc at = omega arith in
+        let same : k ≡ j = one_stands program input (suc at) k j there (subst (λ b. Stands program b j) one stands) in
+        exits-told-of flow h program v a at (λ q lies. may.exits at q way.there read-forward lies) all read-forward least most greedy j here (ap takes_character (sym same) ∙ takes) stands hs
+      where
+        by_way : (b : Bool) → direction_of b ≡ Forward → b ≡ true
+        by_way true e = refl
+        by_way false e = absurd (cc e)
+
+        read-forward : forward_at h at ≡ true
+        read-forward = by_way (forward_at h at) way.running.way
+    exits-here hs _ here j single stands = absurd (cc single)
 
     -- where it leads on it stays on its way, and comes nearer
     pub next-way : (hs : List Marks) (i : Instruction) → Stands program at i → (x : Station) → led told program input Forward hs i at o ≡ Some x

@@ -1,16 +1,18 @@
 -- Whether runs from an address and an offset have an answer.
-use Rattle.std.specs.Prelude.{◌≡◌, ℕ, suc, length, ◌&&◌, ◌||◌, Bool, true, false, List, [], ◌∷◌, Option, Some, None, is_some, not, if◌then◌else◌, slice_get, nat_le}
+use Rattle.std.specs.Prelude.{◌≡◌, ℕ, suc, ◌&&◌, ◌||◌, Bool, true, false, List, [], ◌∷◌, length, Option, Some, None, is_some, not, if◌then◌else◌, slice_get, nat_le}
 use Rattle.regress_meaning.specs.Meaning.{Direction}
 use Rattle.regress_meaning.specs.Inputs.{Input}
-use Rattle.regress_engine_input.specs.Views.{View, input_of, reading_of}
 use Rattle.regress_front_nodes.specs.Trees.{Submatch, lookaround, atomic}
+use Rattle.regress_engine_input.specs.Views.{View, input_of, reading_of}
 use Rattle.regress_engine_insn.specs.Instructions.{LoopFields, Instruction, Program, Stands}
 use Rattle.regress_engine_insn.specs.Instructions as code
-use Rattle.regress_engine_runs.specs.Meets.{Meets, reads_character, ReadsPlaces}
-use Rattle.regress_engine_runs.specs.Runs.{Run, advance, counted, fields_of}
+use Rattle.regress_engine_runs.specs.Closed.{takes_character}
+use Rattle.regress_engine_runs.specs.Meets.{Meets, reads_character, IsAtPlace, ReadsPlaces}
+use Rattle.regress_engine_runs.specs.Runs.{Run, advance, counted, fields_of, one_by_one}
 use Rattle.regress_engine_runs.specs.States.{Marks, Whole}
 use Rattle.regress_engine_runs.specs.UndoStack.{whole}
 use Rattle.regress_engine_memory.specs.Flow.{Flow}
+use Rattle.regress_engine_memory.specs.Under.{IsFurther}
 use Rattle.regress_engine_linear.specs.Ranks.{Ranking, AreRunning}
 
 -- a run over some states ends, with an answer or without one
@@ -79,30 +81,38 @@ abbrev pub is_single : Instruction → Bool
 is_single (code.single_loop least most greedy) = true
 is_single _ = false
 
--- whether it is told of an offset, if there is one
-abbrev pub told_of : (ℕ → Bool) → Option ℕ → Bool
-told_of told None = false
-told_of told (Some o) = told o
-
--- Whether one of the exits of a one-character loop has an answer, from an offset on: the one there, or one from behind one more character.
-abbrev pub exits_at : (told : ℕ → ℕ → Bool) → (exits : ℕ → Bool) → (at o : ℕ) → (next : Option ℕ) → Bool
-exits_at told exits at o next = told (suc (suc at)) o || told_of exits next
-
--- whether the loop has, of which one character is taken at least or none
-abbrev pub single_at : (told : ℕ → ℕ → Bool) → (exits : ℕ → Bool) → (least at o : ℕ) → (next : Option ℕ) → Bool
-single_at told exits least at o next = if nat_le least 0 then exits_at told exits at o next else told_of exits next
+-- Whether one of the exits of a one-character loop has an answer behind at least one more character; the offset behind one is given.
+abbrev pub exits_at : (told : ℕ → ℕ → Bool) → (exits : ℕ → Bool) → (at : ℕ) → (next : Option ℕ) → Bool
+exits_at told exits at None = false
+exits_at told exits at (Some q) = told (suc (suc at)) q || exits q
 
 module _ (told exits : ℕ → ℕ → Bool) (program : Program) (input : Input) (dir : Direction) where
   -- where the instruction behind an address leads that is repeated there
   abbrev pub next_at : (at o : ℕ) → Option ℕ
   next_at at o = elim (slice_get program.instructions (suc at)) [ None ↦ None | Some i ↦ advance program input i dir [] o ]
 
-  -- what is worked out of an address and an offset
-  abbrev pub value_at : Instruction → (at o : ℕ) → Bool
-  value_at (code.single_loop least most greedy) at o = single_at told (exits at) least at o (next_at at o)
-  value_at i at o = answer_at told program input dir i at o
-
-  -- and of the exits of a one-character loop
+  -- what is worked out of the exits of a one-character loop
   abbrev pub exits_value_at : Instruction → (at o : ℕ) → Bool
-  exits_value_at (code.single_loop least most greedy) at o = exits_at told (exits at) at o (next_at at o)
+  exits_value_at (code.single_loop least most greedy) at o = exits_at told (exits at) at (next_at at o)
   exits_value_at i at o = false
+
+-- An instruction takes a character, and stands where a one-character loop at an address has what it repeats.
+abbrev pub IsRepeated : Program → (at : ℕ) → Instruction → Type 0
+IsRepeated program at body = Stands program (suc at) body × (takes_character body ≡ true)
+
+module _ (told : ℕ → ℕ → Bool) (program : Program) (v : View) (dir : Direction) (at : ℕ) where
+  -- whether one of all exits of a one-character loop behind at least one more character has an answer
+  abbrev pub one_beyond : (body : Instruction) → (o : ℕ) → Bool
+  one_beyond body o = elim (advance program (input_of v) body dir [] o) [
+    | None ↦ false
+    | Some q ↦ one_at told (suc (suc at)) (one_by_one program (input_of v) (length v.units) body dir [] q)
+  ]
+
+module _ (told exits : ℕ → ℕ → Bool) (program : Program) (v : View) (dir : Direction) (at o : ℕ) where
+  -- that is told of a loop that repeats this instruction at each place further than an offset
+  abbrev pub AreExitsOf : Instruction → Type 0
+  AreExitsOf body = (q : ℕ) → IsAtPlace (reading_of v) q → IsFurther (length v.units) dir o q → exits at q ≡ one_beyond told program v dir at body q
+
+  -- and of the one-character loop that stands at the address, if one does
+  abbrev pub AreExitsRight : Type 0
+  AreExitsRight = (least most : ℕ) (greedy : Bool) (body : Instruction) → Stands program at (code.single_loop least most greedy) → Stands program (suc at) body → AreExitsOf body

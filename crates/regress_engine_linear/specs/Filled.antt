@@ -1,17 +1,42 @@
 -- What a table of answers tells while it is filled: offset by offset, and at each offset by rank.
-use Rattle.std.specs.Prelude.{◌≡◌, ℕ, suc, ◌<◌, ◌≤◌, ◌⊎◌, Bool, true, false, [], length, Option, Some, None}
+use Rattle.std.specs.Prelude.{◌≡◌, ℕ, suc, ◌-◌, ◌<◌, ◌≤◌, ◌⊎◌, Bool, true, false, length, if◌then◌else◌}
 use Rattle.regress_meaning.specs.Meaning.{Direction}
-use Rattle.regress_engine_input.specs.Views.{View, direction_of, input_of, reading_of}
+use Rattle.regress_engine_input.specs.Views.{View, direction_of, reading_of}
 use Rattle.regress_engine_insn.specs.Instructions.{Instruction, Program, Stands}
 use Rattle.regress_engine_insn.specs.Instructions as code
-use Rattle.regress_engine_runs.specs.Closed.{takes_character}
 use Rattle.regress_engine_runs.specs.Meets.{IsAtPlace}
-use Rattle.regress_engine_runs.specs.Runs.{advance, one_by_one, room}
+use Rattle.regress_engine_runs.specs.Runs.{room}
 use Rattle.regress_engine_memory.specs.Flow.{Flow}
-use Rattle.regress_engine_linear.specs.Answered.{IsAnswered, one_at}
+use Rattle.regress_engine_linear.specs.Answered.{IsAnswered, one_beyond}
 use Rattle.regress_engine_linear.specs.AnswerTables.{exits_by, told_by}
 use Rattle.regress_engine_linear.specs.RankTables.{Heights, forward_at, rank_at, ranking_of}
 use Rattle.regress_engine_linear.specs.declared.answers.Answers.{Answers}
+
+-- an address is there, has a rank, and is read forward, or backward
+abbrev pub IsDue : Heights → (forward : Bool) → (rank at : ℕ) → Type 0
+IsDue h forward rank at = (at < length h.ranks) × (forward_at h at ≡ forward) × (rank_at h at ≡ rank)
+
+-- The second offset is that of the place which is left behind next, where a text is worked out against its direction, behind that of the
+-- first; or the first is the last one.
+pub record IsNextPlace (v : View) (dir : Direction) (o q : ℕ) : Type 0 where
+  pub place : IsAtPlace (reading_of v) q
+  pub order : room (length v.units) dir o ≤ room (length v.units) dir q
+  pub none : (p : ℕ) → IsAtPlace (reading_of v) p → room (length v.units) dir o < room (length v.units) dir p → (room (length v.units) dir o < room (length v.units) dir q)
+      × (room (length v.units) dir q ≤ room (length v.units) dir p)
+
+-- the offset that is worked out after so many others
+abbrev pub offset_of : (forward : Bool) → (last step : ℕ) → ℕ
+offset_of forward last step = if forward then last - step else step
+
+-- one offset is worked out right behind another
+abbrev pub IsBehind : View → (forward : Bool) → (o q : ℕ) → Type 0
+IsBehind v forward o q = room (length v.units) (direction_of forward) q ≡ suc (room (length v.units) (direction_of forward) o)
+
+-- A place is the next one to come, at an offset or behind it, where a text is worked out against its direction.
+pub record IsAwaited (v : View) (dir : Direction) (o awaited : ℕ) : Type 0 where
+  pub place : IsAtPlace (reading_of v) awaited
+  pub ahead : room (length v.units) dir o ≤ room (length v.units) dir awaited
+  pub none : (p : ℕ) → IsAtPlace (reading_of v) p → room (length v.units) dir o ≤ room (length v.units) dir p → room (length v.units) dir awaited ≤ room (length v.units) dir p
 
 module _ (flow : Flow) (h : Heights) (program : Program) (v : View) where
   -- how an address is read
@@ -22,22 +47,20 @@ module _ (flow : Flow) (h : Heights) (program : Program) (v : View) where
   abbrev pub IsRight : Answers → (at o : ℕ) → Type 0
   IsRight a at o = IsAnswered flow (ranking_of h) program v (way_of at) at o (told_by a at o)
 
-  -- What it tells of the exits of a one-character loop agrees with what it tells of them: behind at least one character one of them answers.
-  abbrev pub AreExitsRight : Answers → (at o : ℕ) → Type 0
-  AreExitsRight a at o = (least most : ℕ) (greedy : Bool) (i : Instruction) → Stands program at (code.single_loop least most greedy) → Stands program (suc at) i → IsAtPlace (reading_of v) o
-      → exits_by a at o ≡ elim (advance program (input_of v) i (way_of at) [] o) [
-        | None ↦ false
-        | Some q ↦ one_at (told_by a) (suc (suc at)) (one_by_one program (input_of v) (length v.units) i (way_of at) [] q)
-      ]
+  -- What it tells of the exits of the one-character loop that stands at an address agrees with what it tells of each.
+  abbrev pub IsExitRight : Answers → (at o : ℕ) → Type 0
+  IsExitRight a at o = (least most : ℕ) (greedy : Bool) (body : Instruction) → Stands program at (code.single_loop least most greedy) → Stands program (suc at) body
+      → IsAtPlace (reading_of v) o → exits_by a at o ≡ one_beyond (told_by a) program v (way_of at) at body o
 
   -- further on in the text than an offset, or there and ranked lower than so much
   abbrev pub IsPast : (forward : Bool) → (k o : ℕ) → (at q : ℕ) → Type 0
   IsPast forward k o at q = (room (length v.units) (direction_of forward) q < room (length v.units) (direction_of forward) o) ⊎ ((q ≡ o) × (rank_at h at < k))
 
-  -- All that is read forward, or backward, is told of as far as it is past, and of the rest nothing; before what is read forward all else is.
+  -- All that is read forward, or backward, is told of as far as it is past, and of the rest nothing; what is read backward is told of first.
   pub record IsFilled (a : Answers) (forward : Bool) (k o : ℕ) : Type 0 where
-    pub right : (at q : ℕ) → at < length h.ranks → forward_at h at ≡ forward → q ≤ length v.units → IsPast forward k o at q → IsRight a at q × AreExitsRight a at q
+    pub right : (at q : ℕ) → at < length h.ranks → forward_at h at ≡ forward → q ≤ length v.units → IsPast forward k o at q → IsRight a at q × IsExitRight a at q
     pub fresh : (at q : ℕ) → forward_at h at ≡ forward → q ≤ length v.units → (IsPast forward k o at q → ⊥) → (told_by a at q ≡ false) × (exits_by a at q ≡ false)
+    pub later : forward ≡ false → (at q : ℕ) → forward_at h at ≡ true → (told_by a at q ≡ false) × (exits_by a at q ≡ false)
     pub other : forward ≡ true → (at q : ℕ) → at < length h.ranks → forward_at h at ≡ false → q ≤ length v.units → IsRight a at q
 
   -- all that a table tells is so

@@ -3,4 +3,7 @@ pub mod RankTables
 pub mod Answered
 pub mod AnswerTables
 pub mod Filled
+pub mod Linear
+pub mod LinearTests
+pub mod LinearViews
 pub mod Walked

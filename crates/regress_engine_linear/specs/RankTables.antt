@@ -56,9 +56,13 @@ module _ (h : Heights) where
   turns (lookaround negated backward) at = is_read (not backward) (suc at)
   turns atomic at = is_read (forward_at at) (suc at)
 
-  -- they are ranked lower, or read backward there alone
+  -- they are read as what is around them, and ranked lower, or backward where that is read forward
+  abbrev pub is_apart : (at : ℕ) → Bool
+  is_apart at = (is_read (forward_at at) (suc at) && nat_lt (rank_at (suc at)) (rank_at at)) || (forward_at at && not (forward_at (suc at)))
+
+  -- both hold of them
   abbrev pub holds_inside : Submatch → (at : ℕ) → Bool
-  holds_inside kind at = turns kind at && (nat_lt (rank_at (suc at)) (rank_at at) || (forward_at at && not (forward_at (suc at))))
+  holds_inside kind at = turns kind at && is_apart at
 
   module _ (t : Table) where
     -- a repetition that begins at an address goes on from another

@@ -27,12 +27,12 @@ pub record Lowers (r : Ranking) (taken from to : ℕ) : Type 0 where
   pub way : r.forward to ≡ r.forward from
   pub rank : (1 ≤ taken) ⊎ (r.rank to < r.rank from)
 
--- The contents of a lookaround or an atomic group are read as their kind says, and are ranked lower than where they stand; or they are read
--- backward there alone.
+-- The contents of a lookaround or an atomic group are read as their kind says: as what is around them, and then they are ranked lower than
+-- where they stand; or backward where that is read forward.
 pub record Inside (r : Ranking) (kind : Submatch) (at : ℕ) : Type 0 where
   pub within : suc at < r.count
   pub way : direction_of (r.forward (suc at)) ≡ submatch_direction kind (direction_of (r.forward at))
-  pub rank : (r.rank (suc at) < r.rank at) ⊎ ((r.forward at ≡ true) × (r.forward (suc at) ≡ false))
+  pub rank : ((r.forward (suc at) ≡ r.forward at) × (r.rank (suc at) < r.rank at)) ⊎ ((r.forward at ≡ true) × (r.forward (suc at) ≡ false))
 
 -- A repetition that begins at an address goes on from another: it is read forward, its body begins with its rank, and behind it its loop is
 -- not live.

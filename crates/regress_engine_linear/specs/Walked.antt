@@ -2,7 +2,7 @@
 use Rattle.std.specs.Prelude.{◌≡◌, ℕ, suc, ◌-◌, ◌<◌, ◌≤◌, Bool, true, false, List, [], ◌∷◌, length, Option, Some, None, if◌then◌else◌, get_or, nat_le, slice_get, slice_set}
 use Rattle.regress_meaning.specs.Meaning.{Direction, Forward}
 use Rattle.regress_meaning.specs.Inputs.{Input}
-use Rattle.regress_front_nodes.specs.Trees.{Submatch, lookaround, atomic}
+use Rattle.regress_front_nodes.specs.Trees.{Submatch}
 use Rattle.regress_engine_input.specs.Views.{View, input_of, reading_of}
 use Rattle.regress_engine_insn.specs.Instructions.{LoopFields, Instruction, Program, Stands}
 use Rattle.regress_engine_insn.specs.Instructions as code
@@ -16,20 +16,10 @@ use Rattle.regress_engine_linear.specs.Ranks.{AreRanked, AreRunning, AreUnbounde
 use Rattle.regress_engine_linear.specs.RankTables.{ArePlaced, Heights, forward_at, ranking_of}
 use Rattle.regress_engine_linear.specs.Answered.{ReadsAlong, one_at}
 use Rattle.regress_engine_linear.specs.AnswerTables.{exits_by, told_by}
-use Rattle.regress_engine_linear.specs.Filled.{AreExitsRight, AreRight}
+use Rattle.regress_engine_linear.specs.Linear.{LeavesGroups}
+use Rattle.regress_engine_linear.specs.Filled.{AreRight, IsExitRight}
 use Rattle.regress_engine_linear.specs.declared.answers.Answers.{Answers}
 use Rattle.regress_engine_linear.specs.declared.walking.Station.{Station}
-
--- An instruction is walked past with no look at what is inside: it is no atomic group, and a positive lookaround holds no group.
-abbrev pub IsPassedPlainly : Instruction → Type 0
-IsPassedPlainly (code.submatch (lookaround true backward) first last continuation) = Unit {0}
-IsPassedPlainly (code.submatch (lookaround false backward) first last continuation) = last ≤ first
-IsPassedPlainly (code.submatch atomic first last continuation) = ⊥
-IsPassedPlainly _ = Unit {0}
-
--- each instruction is
-abbrev pub IsPlainlyWalked : Program → Type 0
-IsPlainlyWalked program = (at : ℕ) (i : Instruction) → Stands program at i → IsPassedPlainly i
 
 -- the group whose marks an instruction writes
 abbrev pub written_by : Instruction → Option ℕ
@@ -110,13 +100,17 @@ module _ (told : ℕ → ℕ → Bool) where
     ]
     led i at o = station_at (suc at) (advance program input i dir groups o)
 
--- What is told of the exits of a one-character loop is so: behind at least one more character one of them is told of, at the address where
--- the loop goes on.
-abbrev pub AreExitsTold : Program → View → Answers → Instruction → (from to : ℕ) → Type 0
-AreExitsTold program v a i from to = (q : ℕ) → IsAtPlace (reading_of v) q → exits_by a from q ≡ elim (advance program (input_of v) i Forward [] q) [
+-- What is told of the exits of a one-character loop, from one address to another, is so: behind at least one more character one of them is
+-- told of.
+abbrev pub AreExitsTold : Program → View → List Marks → Answers → Instruction → (from to : ℕ) → Type 0
+AreExitsTold program v groups a i from to = (o : ℕ) → IsAtPlace (reading_of v) o → exits_by a from o ≡ elim (advance program (input_of v) i Forward groups o) [
   | None ↦ false
-  | Some p ↦ one_at (told_by a) to (one_by_one program (input_of v) (length v.units) i Forward [] p)
+  | Some q ↦ one_at (told_by a) to (one_by_one program (input_of v) (length v.units) i Forward groups q)
 ]
+
+-- What is told of the exits of all one-character loops that are read forward is so.
+abbrev pub AreExitsKnown : Flow → Heights → Program → View → Answers → Type 0
+AreExitsKnown flow h program v a = (at o : ℕ) → at < length h.ranks → forward_at h at ≡ true → o ≤ length v.units → IsExitRight flow h program v a at o
 
 -- What a program and a table of answers are to be so that it may be walked along what is told.
 pub record MayWalk (flow : Flow) (h : Heights) (program : Program) (v : View) (a : Answers) : Type 0 where
@@ -124,13 +118,13 @@ pub record MayWalk (flow : Flow) (h : Heights) (program : Program) (v : View) (a
   pub ranked : AreRanked flow (ranking_of h) program
   pub placed : ArePlaced h (length h.ranks)
   pub unbounded : AreUnbounded (length v.units) program
-  pub plain : IsPlainlyWalked program
+  pub leaves : (at first last continuation : ℕ) (kind : Submatch) → Stands program at (code.submatch kind first last continuation) → LeavesGroups kind first last
   pub there : 0 < length h.ranks
   pub calm : flow.calm 0 ≡ true
   pub forward : forward_at h 0 ≡ true
   pub silent : (id : ℕ) → flow.live 0 id ≡ true → ⊥
   pub right : AreRight flow h program v a
-  pub exits : (at q : ℕ) → at < length h.ranks → forward_at h at ≡ true → q ≤ length v.units → AreExitsRight flow h program v a at q
+  pub exits : AreExitsKnown flow h program v a
 
 -- A way that began at an offset has come to an address and an offset, with some groups: from there a run has the answer that the run from
 -- its begin has.

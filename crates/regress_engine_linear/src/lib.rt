@@ -2,9 +2,11 @@
 #![tactic(auto)]
 
 mod answers;
+mod filling;
 mod laws;
 mod making;
 mod ranks;
+mod testing;
 mod walking;
 
 pub use answers::{Answering, Answers};
@@ -13,3 +15,4 @@ pub use laws::{
     running_states_run_alike, runs_go_beyond,
 };
 pub use ranks::RankTable;
+pub use testing::{LinearTable, MOST_REPEATS};

@@ -1,10 +1,10 @@
 //! A table of ranks, and its test.
-ghost use Rattle.std.specs.Prelude.{◌≡◌, ◌+◌, ◌^◌, ◌<◌, ◌&&◌, ◌||◌, not, nat_lt, true, map, slice_get};
+ghost use Rattle.std.specs.Prelude.{◌≡◌, ◌+◌, ◌^◌, ◌<◌, true, map, slice_get};
 ghost use Rattle.regress_engine_insn.specs.Instructions.{Program};
 ghost use Rattle.regress_engine_insn.specs.InsnViews.{fields, instruction};
 ghost use Rattle.regress_engine_runs.specs.Runs.{fields_of};
 ghost use Rattle.regress_engine_memory.specs.TableViews.{table_of};
-ghost use Rattle.regress_engine_linear.specs.RankTables.{ArePlaced, are_ranked, cycles, forward_at, heights_of, is_cycle, is_read, lowers, rank_at, ranks, top_of};
+ghost use Rattle.regress_engine_linear.specs.RankTables.{ArePlaced, are_ranked, cycles, forward_at, heights_of, is_apart, is_cycle, is_read, lowers, rank_at, ranks, top_of};
 
 use regress_engine_insn::{Insn, LoopFields};
 use regress_engine_memory::{FlowTable, taken_by};
@@ -24,7 +24,7 @@ pub struct RankTable {
 
 impl RankTable {
     /// The rank of an address.
-    fn rank(&self, at: usize) -> usize
+    pub(crate) fn rank(&self, at: usize) -> usize
         ensures { result ≡ rank_at (heights_of self.now) at }
     {
         if at < self.ranks.len() {
@@ -35,7 +35,7 @@ impl RankTable {
     }
 
     /// Whether an address is read forward.
-    fn is_forward(&self, at: usize) -> bool
+    pub(crate) fn is_forward(&self, at: usize) -> bool
         ensures { result ≡ forward_at (heights_of self.now) at }
     {
         at < self.forward.len() && self.forward[at]
@@ -53,7 +53,7 @@ impl RankTable {
     }
 
     /// Whether an address is there and is read forward, or backward.
-    fn is_read(&self, forward: bool, at: usize) -> bool
+    pub(crate) fn is_read(&self, forward: bool, at: usize) -> bool
         ensures { result ≡ is_read (heights_of self.now) forward at }
     {
         at < self.ranks.len()
@@ -71,13 +71,13 @@ impl RankTable {
         self.is_read(self.is_forward(from), to) && (taken > 0 || self.rank(to) < self.rank(from))
     }
 
-    /// Whether the contents behind an address are ranked lower, or read backward there alone.
-    fn is_inside(&self, at: usize) -> bool
+    /// Whether the contents behind an address are read as what is around them, and ranked lower, or backward where that is read forward.
+    fn is_apart(&self, at: usize) -> bool
         requires { at + 1 < 2 ^ 64 }
-        ensures { result ≡ (nat_lt (rank_at (heights_of self.now) (at + 1)) (rank_at (heights_of self.now) at)
-            || (forward_at (heights_of self.now) at && not (forward_at (heights_of self.now) (at + 1)))) }
+        ensures { result ≡ is_apart (heights_of self.now) at }
     {
-        self.rank(at + 1) < self.rank(at) || (self.is_forward(at) && !self.is_forward(at + 1))
+        (self.is_read(self.is_forward(at), at + 1) && self.rank(at + 1) < self.rank(at))
+            || (self.is_forward(at) && !self.is_forward(at + 1))
     }
 
     /// Whether a repetition that begins at an address may go on from another.
@@ -124,15 +124,15 @@ impl RankTable {
             Insn::Loop1CharBody { min_iters, .. } => self.lowers(*min_iters, at, at + 2),
             Insn::Lookahead { continuation, .. } => {
                 self.lowers(0, at, *continuation as usize)
-                    && (self.is_read(true, at + 1) && self.is_inside(at))
+                    && (self.is_read(true, at + 1) && self.is_apart(at))
             }
             Insn::Lookbehind { continuation, .. } => {
                 self.lowers(0, at, *continuation as usize)
-                    && (self.is_read(false, at + 1) && self.is_inside(at))
+                    && (self.is_read(false, at + 1) && self.is_apart(at))
             }
             Insn::Atomic { continuation, .. } => {
                 self.lowers(0, at, *continuation as usize)
-                    && (self.is_read(self.is_forward(at), at + 1) && self.is_inside(at))
+                    && (self.is_read(self.is_forward(at), at + 1) && self.is_apart(at))
             }
             _ => self.lowers(taken_by(insn), at, at + 1),
         }

@@ -1,5 +1,5 @@
 //! The way along what is told to have an answer.
-ghost use Rattle.std.specs.Prelude.{◌≡◌, ◌+◌, ◌*◌, ◌-◌, ◌^◌, ◌<◌, ◌≤◌, if◌then◌else◌, ℕ, [], ◌∷◌, false, true, None, Some, IfOk, OnOk, get_or, length, map, replicate, slice_get, slice_set};
+ghost use Rattle.std.specs.Prelude.{◌≡◌, ◌+◌, ◌*◌, ◌-◌, ◌^◌, ◌<◌, ◌≤◌, if◌then◌else◌, ℕ, suc, [], ◌∷◌, false, true, None, Some, IfOk, OnOk, get_or, length, map, replicate, slice_get, slice_set};
 ghost use Rattle.regress_meaning.specs.Meaning.{Forward};
 ghost use Rattle.regress_engine_code.specs.Standing.{program_of};
 ghost use Rattle.regress_engine_input.specs.Views.{input_of, reading_of};
@@ -9,18 +9,19 @@ ghost use Rattle.regress_engine_runs.specs.Meets.{IsAtPlace, reads_character};
 ghost use Rattle.regress_engine_runs.specs.Runs.{fields_of, one_by_one, room};
 ghost use Rattle.regress_engine_runs.specs.States.{begun, ended, first_state, unset};
 ghost use Rattle.regress_engine_runs.specs.UndoStack.{ReadOn, outermost};
-ghost use Rattle.regress_engine_memory.specs.Flow.{Flow};
 ghost use Rattle.regress_engine_search.specs.Answering.{IsAnswer};
 ghost use Rattle.regress_engine_search.specs.Ready.{IsBody, IsReady, is_simple};
 ghost use Rattle.regress_engine_search.specs.Search.{Suits};
 ghost use Rattle.regress_engine_search.specs.StateViews.{marks_of};
 ghost use Rattle.regress_engine_linear.specs.Answered.{is_single};
 ghost use Rattle.regress_engine_linear.specs.AnswerTables.{exits_by, told_by};
-ghost use Rattle.regress_engine_linear.specs.RankTables.{heights_of};
-ghost use Rattle.regress_engine_linear.specs.Walked.{AreExitsTold, MayWalk, again_at, either_of, exit_at, first_at, first_of, last_at, led, marked, station_at, written_by};
+ghost use Rattle.regress_engine_linear.specs.Filled.{AreRight};
+ghost use Rattle.regress_engine_linear.specs.Linear.{IsLinear};
+ghost use Rattle.regress_engine_linear.specs.LinearViews.{flow_in, heights_in};
+ghost use Rattle.regress_engine_linear.specs.Walked.{AreExitsKnown, AreExitsTold, again_at, either_of, exit_at, first_at, first_of, last_at, led, marked, station_at, written_by};
 
 use crate::answers::{Answering, Answers};
-use crate::ranks::RankTable;
+use crate::testing::LinearTable;
 use regress_engine_advance::{advance, after_times};
 use regress_engine_insn::Insn;
 use regress_engine_search::ExecutorInput;
@@ -241,7 +242,8 @@ impl<'a, Input: ExecutorInput> Answering<'a, Input> {
         requires suits { Suits (program_of self.now.program.now) (Input.view self.now.input) }
         requires groups { length self.now.groups.now ≡ (program_of self.now.program.now).groups }
         requires stands { Stands (program_of self.now.program.now) (at - 1) (instruction body.now) }
-        requires exits { AreExitsTold (program_of self.now.program.now) (Input.view self.now.input) answers.now (instruction body.now) from at }
+        requires exits { AreExitsTold (program_of self.now.program.now) (Input.view self.now.input) (map marks_of self.now.groups.now)
+            answers.now (instruction body.now) from at }
         requires body { IsBody (program_of self.now.program.now) (Input.view self.now.input) at near }
         ensures { result ≡ last_at (told_by answers.now) at (one_by_one (program_of self.now.program.now) (input_of (Input.view self.now.input)) left
             (instruction body.now) Forward (map marks_of self.now.groups.now) near) None }
@@ -283,7 +285,8 @@ impl<'a, Input: ExecutorInput> Answering<'a, Input> {
         requires groups { length self.now.groups.now ≡ (program_of self.now.program.now).groups }
         requires stands { Stands (program_of self.now.program.now) (at - 1) (instruction body.now) }
         requires body { IsBody (program_of self.now.program.now) (Input.view self.now.input) at offset }
-        requires exits { AreExitsTold (program_of self.now.program.now) (Input.view self.now.input) answers.now (instruction body.now) from at }
+        requires exits { AreExitsTold (program_of self.now.program.now) (Input.view self.now.input) (map marks_of self.now.groups.now)
+            answers.now (instruction body.now) from at }
         requires order { least ≤ most }
         ensures { result ≡ exit_at (told_by answers.now) (program_of self.now.program.now) (input_of (Input.view self.now.input)) Forward
             (map marks_of self.now.groups.now) least most greedy (instruction body.now) at offset }
@@ -362,7 +365,7 @@ impl<'a, Input: ExecutorInput> Answering<'a, Input> {
         requires place { reads_character (instruction insn.now) ≡ true → IsAtPlace (reading_of (Input.view self.now.input)) offset }
         requires room { at + 1 < 2 ^ 64 }
         requires exits { (i : Instruction) → is_single (instruction insn.now) ≡ true → Stands (program_of self.now.program.now) (at + 1) i
-            → AreExitsTold (program_of self.now.program.now) (Input.view self.now.input) answers.now i at (at + 2) }
+            → AreExitsTold (program_of self.now.program.now) (Input.view self.now.input) (map marks_of self.now.groups.now) answers.now i at (at + 2) }
         ensures { result ≡ led (told_by answers.now) (program_of self.now.program.now) (input_of (Input.view self.now.input)) Forward
             (map marks_of self.now.groups.now) (instruction insn.now) at offset }
     {
@@ -394,23 +397,27 @@ impl<'a, Input: ExecutorInput> Answering<'a, Input> {
     /// is refused.
     pub(crate) fn follow(
         &self,
+        table: &LinearTable,
         answers: &Answers,
-        ranks: &RankTable,
         start: usize,
         groups: &mut Vec<GroupData<usize>>,
         steps: &mut usize,
     ) -> Result<usize, AllocError>
         requires suits { Suits (program_of self.now.program.now) (Input.view self.now.input) }
         requires groups { length self.now.groups.now ≡ (program_of self.now.program.now).groups }
-        requires may { (flow : Flow) × MayWalk flow (heights_of ranks.now) (program_of self.now.program.now) (Input.view self.now.input) answers.now }
+        requires linear { IsLinear (flow_in table.now) (heights_in table.now) (program_of self.now.program.now) }
+        requires short { suc (length (Input.view self.now.input).units) < 2 ^ 64 - 1 }
+        requires begins { 0 < length (program_of self.now.program.now).instructions }
+        requires right { AreRight (flow_in table.now) (heights_in table.now) (program_of self.now.program.now) (Input.view self.now.input) answers.now }
+        requires exits { AreExitsKnown (flow_in table.now) (heights_in table.now) (program_of self.now.program.now) (Input.view self.now.input) answers.now }
         requires place { IsAtPlace (reading_of (Input.view self.now.input)) start }
         requires reads { ReadOn (program_of self.now.program.now) (input_of (Input.view self.now.input)) (reading_of (Input.view self.now.input)) Forward
             (first_state (program_of self.now.program.now) start ∷ []) (outermost []) }
         requires told { told_by answers.now 0 start ≡ true }
         ensures answer { IfOk result (λ end. IsAnswer (program_of self.now.program.now) (input_of (Input.view self.now.input)) start (Some end)
             (map marks_of groups.new.items)) }
-        ensures counted { IfOk result (λ end. steps.new + room (length (Input.view self.now.input).units) Forward end * length ranks.now.order.items
-            ≤ steps.old + room (length (Input.view self.now.input).units) Forward start * length ranks.now.order.items + length ranks.now.order.items) }
+        ensures counted { IfOk result (λ end. steps.new + room (length (Input.view self.now.input).units) Forward end * length (heights_in table.now).order
+            ≤ steps.old + room (length (Input.view self.now.input).units) Forward start * length (heights_in table.now).order + length (heights_in table.now).order) }
     {
         reset(groups, self.groups.len())?;
         let mut here = Station {

@@ -6,6 +6,7 @@ use Rattle.regress_engine_insn.specs.Instructions.{Stands}
 use Rattle.regress_engine_insn.specs.InsnViews.{instruction}
 use Rattle.regress_engine_runs.specs.Meets.{reads_character}
 use Rattle.regress_engine_search.specs.StateViews.{marks_of}
+use Rattle.regress_engine_linear.specs.Answered.{is_single}
 use Rattle.regress_engine_linear.specs.AnswerTables.{told_by}
 use Rattle.regress_engine_linear.specs.Walked.{led, station_at}
 use Rattle.regress_engine_linear.proofs.WalkLemmas.{single-body, single-led, single-stands}
@@ -34,6 +35,10 @@ exit-exit-requires-clause-order g c =
     (single-body v program c.requires.suits c.args.at c.args.offset c.in-Loop1CharBody.min_iters c.in-Loop1CharBody.max_iters c.in-Loop1CharBody.greedy
     (subst (λ x. Stands program c.args.at (instruction x)) c.in-Loop1CharBody.is c.requires.stands)
     (c.requires.place (ap (λ x. reads_character (instruction x)) c.in-Loop1CharBody.is)) (instruction c.instruction-body.result.now) c.instruction-body.ensures.stands).1.1
+
+pub exit-exit-requires-clause-exits : goal.exit-exit-requires-clause-exits
+exit-exit-requires-clause-exits g c =
+    c.requires.exits (instruction c.instruction-body.result.now) (ap (λ x. is_single (instruction x)) c.in-Loop1CharBody.is) c.instruction-body.ensures.stands
 
 pub led_on-requires-clause-plain : goal.led_on-requires-clause-plain
 led_on-requires-clause-plain g c = not-single c.args.insn.now c.in_default.not-Loop1CharBody

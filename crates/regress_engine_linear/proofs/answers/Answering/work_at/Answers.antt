@@ -1,5 +1,5 @@
 use Rattle.std.specs.Prelude.{map}
-use Rattle.std.proofs.Common.{◌≡◌, ℕ, ◌+◌, ◌<◌, ◌&&◌, ◌||◌, ◌==◌, Bool, Result, Ok, Err, OnOk, sym, ap, ◌∙◌, subst, length, arith}
+use Rattle.std.proofs.Common.{◌&&◌, ◌||◌, ◌==◌, Result, Ok, Err, OnOk, refl, sym, ap, ◌∙◌, subst, arith}
 use Rattle.std.proofs.lemmas.List.{length-map}
 use Rattle.regress_engine_code.specs.Standing.{program_of}
 use Rattle.regress_engine_input.specs.Views.{View, direction_of}
@@ -8,7 +8,7 @@ use Rattle.regress_engine_insn.specs.Instructions as code
 use Rattle.regress_engine_insn.specs.InsnViews.{instruction}
 use Rattle.regress_engine_search.specs.StateViews.{marks_of}
 use Rattle.regress_engine_linear.specs.AnswerTables.{exits_by, told_by}
-use Rattle.regress_engine_linear.proofs.WorkLemmas.{body-calm, body-ready-there, body-stands, exits-value-is, not-single, ready-there, value-is}
+use Rattle.regress_engine_linear.proofs.WorkLemmas.{answer-is, body-repeated, body-stands, exits-of, exits-value-is, not-single, numbers-order, ready-there}
 use Rattle.regress_engine_linear.proofs.answers.Answering.work_at.Goals as goal
 
 -- what is so where a call succeeds makes another thing so
@@ -18,27 +18,35 @@ ok-more (Err e) more p = tt
 
 pub instruction-body-requires : goal.instruction-body-requires
 instruction-body-requires g c =
-    let program : Program = program_of c.args.self.now.program.now in
-    let v : View = g.Input.InputIndexer.view c.args.self.now.input in
-    body-stands v (g.met.Input.InputIndexer.are_of_kind c.args.self.now.input) program c.requires.suits (map marks_of c.args.self.now.groups.now)
-    (length-map c.args.self.now.groups.now marks_of ∙ c.requires.groups) c.args.offset c.requires.place c.args.at c.in-Loop1CharBody.min_iters c.in-Loop1CharBody.max_iters c.in-Loop1CharBody.greedy
-    (subst (λ x. Stands program c.args.at (instruction x)) c.in-Loop1CharBody.is c.instruction-insn.ensures.stands)
+    let single = c.in-Loop1CharBody in
+    body-stands (g.Input.InputIndexer.view c.args.self.now.input) (program_of c.args.self.now.program.now) c.requires.suits c.args.at single.min_iters single.max_iters single.greedy
+    (subst (λ x. Stands (program_of c.args.self.now.program.now) c.args.at (instruction x)) single.is c.instruction-insn.ensures.stands)
 
-pub work_out_single-requires-clause-ready : goal.work_out_single-requires-clause-ready
-work_out_single-requires-clause-ready g c =
-    let program : Program = program_of c.args.self.now.program.now in
-    let v : View = g.Input.InputIndexer.view c.args.self.now.input in
-    body-ready-there v (g.met.Input.InputIndexer.are_of_kind c.args.self.now.input) program c.requires.suits (map marks_of c.args.self.now.groups.now)
-    (length-map c.args.self.now.groups.now marks_of ∙ c.requires.groups) c.args.offset c.requires.place c.args.at c.in-Loop1CharBody.min_iters c.in-Loop1CharBody.max_iters c.in-Loop1CharBody.greedy
-    (subst (λ x. Stands program c.args.at (instruction x)) c.in-Loop1CharBody.is c.instruction-insn.ensures.stands) (instruction c.instruction-body.result.now) c.instruction-body.ensures.stands
+pub work_out_single-requires-clause-repeated : goal.work_out_single-requires-clause-repeated
+work_out_single-requires-clause-repeated g c =
+    let single = c.in-Loop1CharBody in
+    body-repeated (g.Input.InputIndexer.view c.args.self.now.input) (program_of c.args.self.now.program.now) c.requires.suits c.args.at single.min_iters single.max_iters single.greedy
+    (subst (λ x. Stands (program_of c.args.self.now.program.now) c.args.at (instruction x)) single.is c.instruction-insn.ensures.stands)
+    (instruction c.instruction-body.result.now) c.instruction-body.ensures.stands
 
-pub work_out_single-requires-clause-calm : goal.work_out_single-requires-clause-calm
-work_out_single-requires-clause-calm g c =
-    let program : Program = program_of c.args.self.now.program.now in
-    let v : View = g.Input.InputIndexer.view c.args.self.now.input in
-    body-calm v (g.met.Input.InputIndexer.are_of_kind c.args.self.now.input) program c.requires.suits (map marks_of c.args.self.now.groups.now)
-    (length-map c.args.self.now.groups.now marks_of ∙ c.requires.groups) c.args.offset c.requires.place c.args.at c.in-Loop1CharBody.min_iters c.in-Loop1CharBody.max_iters c.in-Loop1CharBody.greedy
-    (subst (λ x. Stands program c.args.at (instruction x)) c.in-Loop1CharBody.is c.instruction-insn.ensures.stands) (instruction c.instruction-body.result.now) c.instruction-body.ensures.stands
+pub work_out_single-requires-clause-place : goal.work_out_single-requires-clause-place
+work_out_single-requires-clause-place g c =
+    let single = c.in-Loop1CharBody in
+    c.requires.place (code.single_loop single.min_iters single.max_iters single.greedy)
+    (subst (λ x. Stands (program_of c.args.self.now.program.now) c.args.at (instruction x)) single.is c.instruction-insn.ensures.stands) refl
+
+pub work_out_single-requires-clause-order : goal.work_out_single-requires-clause-order
+work_out_single-requires-clause-order g c =
+    let single = c.in-Loop1CharBody in
+    numbers-order (g.Input.InputIndexer.view c.args.self.now.input) (program_of c.args.self.now.program.now) c.requires.suits c.args.at single.min_iters single.max_iters single.greedy
+    (subst (λ x. Stands (program_of c.args.self.now.program.now) c.args.at (instruction x)) single.is c.instruction-insn.ensures.stands)
+
+pub work_out_single-requires-clause-exits : goal.work_out_single-requires-clause-exits
+work_out_single-requires-clause-exits g c =
+    let single = c.in-Loop1CharBody in
+    exits-of (g.Input.InputIndexer.view c.args.self.now.input) (program_of c.args.self.now.program.now) c.requires.suits c.args.at single.min_iters single.max_iters single.greedy
+    (subst (λ x. Stands (program_of c.args.self.now.program.now) c.args.at (instruction x)) single.is c.instruction-insn.ensures.stands)
+    (told_by c.args.answers.now) (exits_by c.args.answers.now) (direction_of c.args.forward) c.args.offset (instruction c.instruction-body.result.now) c.instruction-body.ensures.stands c.requires.exits
 
 pub work_out-requires : goal.work_out-requires
 work_out-requires g c =
@@ -50,8 +58,8 @@ work_out-requires g c =
     let count = c.requires.count in
     record {
       suits = c.requires.suits;
-      ready = λ simple. ready-there v (g.met.Input.InputIndexer.are_of_kind c.args.self.now.input) program c.requires.suits (map marks_of c.args.self.now.groups.now)
-          (length-map c.args.self.now.groups.now marks_of ∙ c.requires.groups) c.args.offset c.requires.place c.args.at i c.instruction-insn.ensures.stands calm simple;
+      ready = λ simple. ready-there v program c.requires.suits (map marks_of c.args.self.now.groups.now)
+          (length-map c.args.self.now.groups.now marks_of ∙ c.requires.groups) c.args.offset c.args.at i (c.requires.place i c.instruction-insn.ensures.stands) c.instruction-insn.ensures.stands calm simple;
       room = c.instruction-insn.ensures.room;
       within = omega (arith, within, count);
       plain = not-single c.instruction-insn.result.now c.in_default.not-Loop1CharBody;
@@ -62,12 +70,13 @@ pub returns-in-Loop1CharBody-clause-told : goal.returns-in-Loop1CharBody-clause-
 returns-in-Loop1CharBody-clause-told g c =
     let program : Program = program_of c.args.self.now.program.now in
     let v : View = g.Input.InputIndexer.view c.args.self.now.input in
+    let single = c.in-Loop1CharBody in
+    let here : Stands program c.args.at (code.single_loop single.min_iters single.max_iters single.greedy) =
+    subst (λ x. Stands program c.args.at (instruction x)) single.is c.instruction-insn.ensures.stands in
     let old = c.args.answers.now in
     ok-more c.work_out_single.result
-    (λ told i stands a o. told a o ∙ ap (λ b. told_by old a o || (((a == c.args.at) && (c.args.offset == o)) && b))
-    (sym (value-is v (g.met.Input.InputIndexer.are_of_kind c.args.self.now.input) program c.requires.suits (map marks_of c.args.self.now.groups.now)
-    (length-map c.args.self.now.groups.now marks_of ∙ c.requires.groups) c.args.offset c.requires.place c.args.at c.in-Loop1CharBody.min_iters c.in-Loop1CharBody.max_iters c.in-Loop1CharBody.greedy
-    (subst (λ x. Stands program c.args.at (instruction x)) c.in-Loop1CharBody.is c.instruction-insn.ensures.stands) (told_by old) (exits_by old) (direction_of c.args.forward)
+    (λ told i stands a o. told single.greedy a o ∙ ap (λ b. told_by old a o || (((a == c.args.at) && (c.args.offset == o)) && b))
+    (sym (answer-is v program c.requires.suits c.args.at single.min_iters single.max_iters single.greedy here (told_by old) (exits_by old) (direction_of c.args.forward) c.args.offset
     (instruction c.instruction-body.result.now) c.instruction-body.ensures.stands i stands)))
     c.work_out_single.ensures.told
 
@@ -75,11 +84,12 @@ pub returns-in-Loop1CharBody-clause-exits : goal.returns-in-Loop1CharBody-clause
 returns-in-Loop1CharBody-clause-exits g c =
     let program : Program = program_of c.args.self.now.program.now in
     let v : View = g.Input.InputIndexer.view c.args.self.now.input in
+    let single = c.in-Loop1CharBody in
+    let here : Stands program c.args.at (code.single_loop single.min_iters single.max_iters single.greedy) =
+    subst (λ x. Stands program c.args.at (instruction x)) single.is c.instruction-insn.ensures.stands in
     let old = c.args.answers.now in
     ok-more c.work_out_single.result
     (λ told i stands a o. told a o ∙ ap (λ b. exits_by old a o || (((a == c.args.at) && (c.args.offset == o)) && b))
-    (sym (exits-value-is v (g.met.Input.InputIndexer.are_of_kind c.args.self.now.input) program c.requires.suits (map marks_of c.args.self.now.groups.now)
-    (length-map c.args.self.now.groups.now marks_of ∙ c.requires.groups) c.args.offset c.requires.place c.args.at c.in-Loop1CharBody.min_iters c.in-Loop1CharBody.max_iters c.in-Loop1CharBody.greedy
-    (subst (λ x. Stands program c.args.at (instruction x)) c.in-Loop1CharBody.is c.instruction-insn.ensures.stands) (told_by old) (exits_by old) (direction_of c.args.forward)
+    (sym (exits-value-is v program c.requires.suits c.args.at single.min_iters single.max_iters single.greedy here (told_by old) (exits_by old) (direction_of c.args.forward) c.args.offset
     (instruction c.instruction-body.result.now) c.instruction-body.ensures.stands i stands)))
     c.work_out_single.ensures.exits
