@@ -25,7 +25,7 @@ use Rattle.regress_engine_memory.specs.Needs.{taken_by}
 use Rattle.regress_engine_memory.specs.Under.{IsFurther}
 use Rattle.regress_engine_memory.proofs.Onward.{flows-unreferring, room-less}
 use Rattle.regress_engine_memory.proofs.Taking.{advance-takes, one-takes, taking-unreferring}
-use Rattle.regress_engine_linear.specs.Answered.{IsAnswered, ReadsAlong, answer_at, exits_at, one_at, one_beyond}
+use Rattle.regress_engine_linear.specs.Answered.{AreExitsRight, IsAnswered, answer_at, exits_at, exits_value_at, one_at, one_beyond}
 use Rattle.regress_engine_linear.specs.AnswerTables.{exits_by, told_by}
 use Rattle.regress_engine_linear.specs.Filled.{IsDue, IsExitRight, IsFilled, IsPast, IsRight, way_of}
 use Rattle.regress_engine_linear.specs.Linear.{IsLinear}
@@ -37,7 +37,7 @@ use Rattle.regress_engine_linear.proofs.Beyond.{leads-beyond}
 use Rattle.regress_engine_linear.proofs.ExitAnswers.{exits-told}
 use Rattle.regress_engine_linear.proofs.Formulas.{answers-are, or-none}
 use Rattle.regress_engine_linear.proofs.Within.{each-lies}
-use Rattle.regress_engine_linear.proofs.WorkLemmas.{reads-there}
+use Rattle.regress_engine_linear.proofs.WorkLemmas.{exits-value-is, reads-there}
 
 -- a bit is as it was, but at one address and offset
 pub bit-elsewhere : (at o b q : ℕ) (old value : Bool) → (b ≡ at → q ≡ o → ⊥) → (old || (((b == at) && (o == q)) && value)) ≡ old
@@ -114,8 +114,8 @@ module _ (flow : Flow) (h : Heights) (v : View) (all : AreOfKind v.kind v.units)
   )
 
   -- one address has a rank
-  pub one-due : (forward : Bool) (k at b : ℕ) → slice_get h.order k ≡ Some at → IsDue h forward k b → b ≡ at
-  one-due forward k at b here (within, way, rank) =
+  pub one-due : (k at b : ℕ) → slice_get h.order k ≡ Some at → b < length h.ranks → rank_at h b ≡ k → b ≡ at
+  one-due k at b here within rank =
       let placed = linear.placed b (subst (λ n. b < n) linear.count within) in
       let e : Some b ≡ Some at = sym placed ∙ ap (slice_get h.order) rank ∙ here in
       cc
@@ -261,6 +261,12 @@ module _ (flow : Flow) (h : Heights) (v : View) (all : AreOfKind v.kind v.units)
               let known' = subst (λ d. exits_by a at q ≡ one_beyond told program v (direction_of d) at i q) way known in
               ap (λ b. told (suc (suc at)) q || b) known' ∙ sym (exits-told v program dir i takes told (suc (suc at)) last q (room-end last dir q inside))
 
+    -- what is told of exits further on
+    pub exits-known : at < length h.ranks → AreExitsRight told (exits_by a) program v dir at o
+    exits-known within least most greedy body here there q place further =
+        let known = (filled.right at q within way (place-lies v all q place) (inl (room-less last dir o q further))).1 least most greedy body here there place in
+        subst (λ d. exits_by a at q ≡ one_beyond told program v (direction_of d) at body q) way known
+
     -- ---- the table with what was worked out
 
     module _ (within : at < length h.ranks) (alone : (b : ℕ) → b < length h.ranks → rank_at h b ≡ k → b ≡ at) (a' : Answers) (value exit : Bool)
@@ -374,3 +380,16 @@ module _ (flow : Flow) (h : Heights) (v : View) (all : AreOfKind v.kind v.units)
                 where
                   below : (x y : ℕ) → x < suc y → (x ≡ y → ⊥) → x < y
                   below x y less other = elim (cases_eq x y) [ inl e ↦ absurd (other e) | inr e ↦ omega (arith, less, e) ]
+
+    -- So it is where an address is worked out by the instruction that stands there.
+    pub worked : (within : at < length h.ranks) → ((b : ℕ) → b < length h.ranks → rank_at h b ≡ k → b ≡ at) → (i : Instruction) → Stands program at i
+        → (reads_character i ≡ true → IsAtPlace (reading_of v) o) → (a' : Answers)
+        → ((b q : ℕ) → told_by a' b q ≡ (told_by a b q || (((b == at) && (o == q)) && answer_at told program (input_of v) dir i at o)))
+        → ((b q : ℕ) → exits_by a' b q ≡ (exits_by a b q || (((b == at) && (o == q)) && exits_value_at told (exits_by a) program (input_of v) dir i at o)))
+        → IsFilled flow h program v a' forward (suc k) o
+    worked within alone i here reads a' told-is exits-are =
+        filled-on within alone a' (answer_at told program (input_of v) dir i at o) (exits_value_at told (exits_by a) program (input_of v) dir i at o) told-is exits-are (value-right i here reads)
+        (λ least most greedy body single there place.
+        let one : suc at ≡ at + 1 = omega arith in
+        exits-value-is v program suits at least most greedy single told (exits_by a) dir o body (subst (λ b. Stands program b body) one there) i here
+        ∙ exits-right least most greedy body single there place)

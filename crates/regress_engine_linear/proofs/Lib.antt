@@ -10,6 +10,7 @@ pub mod ExitAnswers
 pub mod WorkLemmas
 pub mod Within
 pub mod FillLemmas
+pub mod FillingWays
 pub mod NextPlaces
 pub mod DecidingLinear
 pub mod WalkLemmas

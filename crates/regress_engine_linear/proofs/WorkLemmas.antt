@@ -9,7 +9,7 @@ use Rattle.regress_engine_insn.specs.InsnViews.{instruction}
 use Rattle.regress_engine_insn.specs.declared.insn.Insn.{Insn}
 use Rattle.regress_engine_insn.specs.declared.insn.Insn.TheVariants.{Loop1CharBody}
 use Rattle.regress_engine_runs.specs.Closed.{takes_character}
-use Rattle.regress_engine_runs.specs.Meets.{referred, AreAtPlaces, IsAtPlace, ReadsPlaces}
+use Rattle.regress_engine_runs.specs.Meets.{AreAtPlaces, IsAtPlace, ReadsPlaces, reads_character, referred}
 use Rattle.regress_engine_runs.specs.Runs.{advance, counted}
 use Rattle.regress_engine_runs.specs.States.{Marks, Whole, range_of, unset}
 use Rattle.regress_engine_runs.specs.UndoStack.{whole}

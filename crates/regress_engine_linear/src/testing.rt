@@ -55,12 +55,19 @@ fn may_stand(insn: &Insn) -> bool
     }
 }
 
+/// Whether an instruction may, and no back reference can be reached from where it stands.
+fn fits(flow: &FlowTable, at: usize, insn: &Insn) -> bool
+    ensures { result ≡ fits_at (table_of flow.now) at (instruction insn.now) }
+{
+    flow.is_calm(at) && may_stand(insn)
+}
+
 /// Whether each of some instructions may, and stands where no back reference can be reached.
 fn are_fit(flow: &FlowTable, insns: &[Insn]) -> bool
     ensures { (program : Program) → program.instructions ≡ map instruction insns.now → result ≡ all_pass (fits_at (table_of flow.now)) 0 program.instructions }
 {
     for at in 0..insns.len() {
-        if !flow.is_calm(at) || !may_stand(&insns[at]) {
+        if !fits(flow, at, &insns[at]) {
             return false;
         }
     }

@@ -1,5 +1,3 @@
-use Rattle.regress_engine_linear.proofs.NextPlaces.{next-is}
-use Rattle.regress_engine_linear.proofs.FillLemmas.{bit-here}
 use Rattle.regress_engine_linear.proofs.Beyond.{goes-beyond}
 use Rattle.regress_engine_linear.proofs.laws.runs_go_beyond.Goals as goal
 
