@@ -26,7 +26,7 @@ way-init g c =
     let start = c.args.start in
     record {
       way = subst (IsOnWay flow h program v start 0 start) (sym (c.in_ok-reset.ensures.marks ∙ ap (λ n. replicate n unset) count))
-            (way-begins flow h v all program c.requires.suits c.args.answers.now may start c.requires.place (λ u i met. c.requires.reads u i (meets_alone met)) c.requires.told);
+          (way-begins flow h v all program c.requires.suits c.args.answers.now may start c.requires.place (λ u i met. c.requires.reads u i (meets_alone met)) c.requires.told);
       size = c.in_ok-reset.ensures.count ∙ count;
       counted = omega arith;
     }
