@@ -71,7 +71,7 @@ module _ (program : Program) (input : Input) (dir : Direction) where
       by_told false (m, q, first, some) e go = by_none m q first some e go
 
   -- what follows the first state of a run that is plain
-  run-onward : (i : Instruction) (s : Whole) (n : ℕ) (a : Option Whole) → Stands program s.at i → is_plain i ≡ true → Run program input dir (s ∷ []) n a
+  pub run-onward : (i : Instruction) (s : Whole) (n : ℕ) (a : Option Whole) → Stands program s.at i → is_plain i ≡ true → Run program input dir (s ∷ []) n a
       → (m : ℕ) × Run program input dir (successors program input i dir s) m a
   run-onward i s n a here plain run =
       let (m, count, rest) = run_goes program input i here plain run in (m, subst (λ xs. Run program input dir xs m a) (append-nil (successors program input i dir s)) rest)
@@ -121,7 +121,7 @@ module _ (flow : Flow) (r : Ranking) (v : View) (all : AreOfKind v.kind v.units)
   look-answers negated backward low high continuation at o c d here inner behind' loops groups running reads =
       let s : Whole = whole at o loops groups in
       let (m, q, run, some) =
-          inner loops groups (running-inside flow r v all program suits closed ranked dir (lookaround negated backward) low high continuation s running here) (λ u j met. reads u j (inside here met)) in
+      inner loops groups (running-inside flow r v all program suits closed ranked dir (lookaround negated backward) low high continuation s running here) (λ u j met. reads u j (inside here met)) in
       let (n, a, next, is) = by_answer negated c q here some
       (λ u j met. reads u j (behind here (m, run) (meets-first program (input_of v) met []))) in
       (suc (m + n), a, looks {m = m} {n = n} {q = q} {r = a} here run (subst (λ xs. Run program (input_of v) dir xs n a) (sym (append-nil (after_submatch (lookaround negated backward) low high continuation s q))) next), is)

@@ -13,3 +13,4 @@ pub mod FillLemmas
 pub mod FillingWays
 pub mod NextPlaces
 pub mod DecidingLinear
+pub mod WalkLemmas

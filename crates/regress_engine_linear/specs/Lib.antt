@@ -6,3 +6,4 @@ pub mod Filled
 pub mod Linear
 pub mod LinearTests
 pub mod LinearViews
+pub mod Walked

@@ -7,6 +7,7 @@ mod laws;
 mod making;
 mod ranks;
 mod testing;
+mod walking;
 
 pub use answers::{Answering, Answers};
 pub use laws::{

@@ -68,8 +68,7 @@ impl RankTable {
     fn lowers(&self, taken: usize, from: usize, to: usize) -> bool
         ensures { result ≡ lowers (heights_of self.now) taken from to }
     {
-        self.is_read(self.is_forward(from), to)
-            && (taken > 0 || self.rank(to) < self.rank(from))
+        self.is_read(self.is_forward(from), to) && (taken > 0 || self.rank(to) < self.rank(from))
     }
 
     /// Whether the contents behind an address are read as what is around them, and ranked lower, or backward where that is read forward.
