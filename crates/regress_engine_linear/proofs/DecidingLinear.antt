@@ -1,7 +1,7 @@
 -- A program that passes the test is linear.
-use Rattle.std.specs.Prelude.{nat_le}
+use Rattle.std.specs.Prelude.{IfSome, nat_le, nat_lt}
 use Rattle.std.proofs.Common.{◌≡◌, ℕ, ◌-◌, ◌^◌, ◌<◌, ◌≤◌, ◌⊎◌, inl, inr, ◌&&◌, ◌||◌, ◌==◌, Bool, true, false, List, [], ◌∷◌, length, get_or, Option, Some, refl, sym, ap, ◌∙◌, subst, arith}
-use Rattle.std.proofs.lemmas.Bool.{and_parts, or_cases, eqb-true, leb-true}
+use Rattle.std.proofs.lemmas.Bool.{and_parts, or_cases, eqb-true, ltb-true, leb-true}
 use Rattle.std.proofs.lemmas.Option.{slice_get-get_or}
 use Rattle.regress_meaning.specs.Text.{holds}
 use Rattle.regress_front_nodes.specs.Trees.{Submatch, lookaround, atomic}
@@ -16,10 +16,14 @@ use Rattle.regress_engine_linear.specs.LinearTests.{fits_at, is_fit, is_unbounde
 use Rattle.regress_engine_linear.specs.RankTables.{Heights, ArePlaced, are_ranked, forward_at}
 use Rattle.regress_engine_linear.proofs.Ranking.{ranks-decide}
 
+-- what is some is so
+pub if-some : {T : Type 0} (P : T → Type 0) (x : Option T) (y : T) → x ≡ Some y → IfSome x P → P y
+if-some P x y e known = subst (λ z. IfSome z P) e known
+
 module _ (t : Table) (h : Heights) (program : Program) (flows : is_flow t program ≡ true) (ranked : are_ranked h t program ≡ true) (placed : ArePlaced h (length program.instructions))
     (fit : is_fit t h program ≡ true) where
   abbrev rest : Bool
-  rest = (length (live_at t 0) == 0) && (forward_at h 0 && ((length h.ranks == length program.instructions) && (length h.order == length program.instructions)))
+  rest = (length (live_at t 0) == 0) && (forward_at h 0 && (nat_lt 0 (length h.ranks) && ((length h.ranks == length program.instructions) && (length h.order == length program.instructions))))
 
   one : (at : ℕ) (i : Instruction) → Stands program at i → (calm_at t at ≡ true) × (may_stand i ≡ true)
   one at i here =
@@ -52,14 +56,18 @@ module _ (t : Table) (h : Heights) (program : Program) (flows : is_flow t progra
       let a = and_parts (all_pass (fits_at t) 0 program.instructions) rest fit in
       let b = and_parts (length (live_at t 0) == 0) _ a.1 in
       let c = and_parts (forward_at h 0) _ b.1 in
-      let d = and_parts (length h.ranks == length program.instructions) (length h.order == length program.instructions) c.1 in
+      let some = and_parts (nat_lt 0 (length h.ranks)) _ c.1 in
+      let d = and_parts (length h.ranks == length program.instructions) (length h.order == length program.instructions) some.1 in
+      let count : length h.ranks ≡ length program.instructions = eqb-true (length h.ranks) (length program.instructions) d.0 in
+      let more = ltb-true 0 (length h.ranks) some.0 in
       record {
         flows = decides t program flows;
         calm = λ at within. (one at (get_or program.instructions at code.fail) (slice_get-get_or program.instructions at code.fail within)).0;
         silent = none-live (eqb-true (length (live_at t 0)) 0 b.0);
         ranked = ranks-decide h t program ranked;
         placed = placed;
-        count = eqb-true (length h.ranks) (length program.instructions) d.0;
+        count = count;
+        some = omega (arith, count, more);
         ranks = eqb-true (length h.order) (length program.instructions) d.1;
         begins = c.0;
         unbounded = λ at f here. eqb-true f.most (2 ^ 64 - 1) (one at (code.enter_loop f) here).1;

@@ -6,11 +6,6 @@ pub mod FromStart
 pub mod Ranking
 pub mod AnswerLemmas
 pub mod Formulas
-pub mod ExitAnswers
-pub mod WorkLemmas
 pub mod Within
-pub mod FillLemmas
-pub mod FillingWays
 pub mod NextPlaces
 pub mod DecidingLinear
-pub mod WalkLemmas

@@ -13,7 +13,7 @@ use Rattle.regress_engine_runs.specs.Meets.{IsAtPlace}
 use Rattle.regress_engine_runs.specs.Runs.{against, room}
 use Rattle.regress_engine_search.proofs.PlaceLemmas.{end-is, units-are}
 use Rattle.regress_engine_search.proofs.SkipLemmas.{place-lies}
-use Rattle.regress_engine_linear.specs.Filled.{IsAwaited, IsNextPlace, offset_of}
+use Rattle.regress_engine_linear.specs.Places.{IsAwaited, IsNextPlace, offset_of}
 
 same-second : (x y : ℕ × ℕ) → Some x ≡ Some y → x.1 ≡ y.1
 same-second x y e = let same : x ≡ y = cc in ap (λ (z : ℕ × ℕ). z.1) same

@@ -1,9 +1,7 @@
 pub mod Ranks
 pub mod RankTables
 pub mod Answered
-pub mod AnswerTables
-pub mod Filled
 pub mod Linear
 pub mod LinearTests
 pub mod LinearViews
-pub mod Walked
+pub mod Places

@@ -5,7 +5,11 @@ use Rattle.regress_engine_insn.specs.Instructions.{LoopFields, Instruction, Prog
 use Rattle.regress_engine_insn.specs.Instructions as code
 use Rattle.regress_engine_memory.specs.Flow.{Flow, IsFlow}
 use Rattle.regress_engine_linear.specs.Ranks.{AreRanked}
-use Rattle.regress_engine_linear.specs.RankTables.{Heights, ArePlaced, forward_at, ranking_of}
+use Rattle.regress_engine_linear.specs.RankTables.{Heights, ArePlaced, forward_at, rank_at, ranking_of}
+
+-- an address is there, has a rank, and is read forward, or backward
+abbrev pub IsDue : Heights → (forward : Bool) → (rank at : ℕ) → Type 0
+IsDue h forward rank at = (at < length h.ranks) × (forward_at h at ≡ forward) × (rank_at h at ≡ rank)
 
 -- a repetition has no greatest number
 abbrev pub IsUnbounded : LoopFields → Type 0
@@ -35,6 +39,7 @@ pub record IsLinear (flow : Flow) (h : Heights) (program : Program) : Type 0 whe
   pub placed : ArePlaced h (length program.instructions)
   pub count : length h.ranks ≡ length program.instructions
   pub ranks : length h.order ≡ length program.instructions
+  pub some : 0 < length program.instructions
   pub begins : forward_at h 0 ≡ true
   pub unbounded : (at : ℕ) (f : LoopFields) → Stands program at (code.enter_loop f) → IsUnbounded f
   pub counts : (at least most : ℕ) (greedy : Bool) → Stands program at (code.single_loop least most greedy) → AreFew least most

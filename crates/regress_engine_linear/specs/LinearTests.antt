@@ -1,5 +1,5 @@
 -- The test that a program is linear.
-use Rattle.std.specs.Prelude.{ℕ, ◌-◌, ◌^◌, ◌&&◌, ◌||◌, ◌==◌, Bool, true, false, length, nat_le}
+use Rattle.std.specs.Prelude.{ℕ, ◌-◌, ◌^◌, ◌&&◌, ◌||◌, ◌==◌, Bool, true, false, length, nat_le, nat_lt}
 use Rattle.regress_front_nodes.specs.Trees.{Submatch, lookaround, atomic}
 use Rattle.regress_engine_insn.specs.Instructions.{Instruction, Program}
 use Rattle.regress_engine_insn.specs.Instructions as code
@@ -26,7 +26,7 @@ module _ (t : Table) where
   abbrev pub fits_at : (at : ℕ) → Instruction → Bool
   fits_at at i = calm_at t at && may_stand i
 
-  -- all of a program do, and a ranking has a rank for each; where it begins nothing is live, and it is read forward
+  -- all of a program do, of which there are some, and a ranking has a rank for each; where it begins nothing is live, and it is read forward
   abbrev pub is_fit : Heights → Program → Bool
   is_fit h program = all_pass fits_at 0 program.instructions && ((length (live_at t 0) == 0) && (forward_at h 0
-      && ((length h.ranks == length program.instructions) && (length h.order == length program.instructions))))
+      && (nat_lt 0 (length h.ranks) && ((length h.ranks == length program.instructions) && (length h.order == length program.instructions)))))

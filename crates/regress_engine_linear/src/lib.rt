@@ -1,15 +1,11 @@
 //! Programs of which a search takes time that grows as program and text do.
 #![tactic(auto)]
 
-mod answers;
-mod filling;
 mod laws;
 mod making;
 mod ranks;
 mod testing;
-mod walking;
 
-pub use answers::{Answering, Answers};
 pub use laws::{
     answers_are_told_by_those_ahead, running_failures_forget, running_states_lead_on,
     running_states_run_alike, runs_go_beyond,

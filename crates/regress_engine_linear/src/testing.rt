@@ -1,11 +1,11 @@
 //! The test that a program is linear.
-ghost use Rattle.std.specs.Prelude.{◌≡◌, ◌==◌, ◌&&◌, IfOk, IfSome, length, map};
+ghost use Rattle.std.specs.Prelude.{◌≡◌, ◌==◌, ◌<◌, ◌&&◌, false, true, Some, slice_get, nat_lt, IfOk, IfSome, length, map};
 ghost use Rattle.regress_engine_insn.specs.Instructions.{Program};
 ghost use Rattle.regress_engine_insn.specs.InsnViews.{instruction};
 ghost use Rattle.regress_engine_memory.specs.Deciding.{flow_of, live_at};
 ghost use Rattle.regress_engine_memory.specs.Passing.{all_pass};
 ghost use Rattle.regress_engine_memory.specs.TableViews.{table_of};
-ghost use Rattle.regress_engine_linear.specs.Linear.{IsLinear};
+ghost use Rattle.regress_engine_linear.specs.Linear.{IsDue, IsLinear};
 ghost use Rattle.regress_engine_linear.specs.LinearTests.{fits_at, is_unbounded, may_stand};
 ghost use Rattle.regress_engine_linear.specs.RankTables.{forward_at, heights_of};
 
@@ -85,12 +85,50 @@ impl LinearTable {
     /// Whether the ranks are those of so many addresses, and the program is read forward from its begin, where nothing is live.
     fn begins(&self, count: usize) -> bool
         ensures { result ≡ ((length (live_at (table_of self.now.flow) 0) == 0) && (forward_at (heights_of self.now.ranks) 0
-            && ((length (heights_of self.now.ranks).ranks == count) && (length (heights_of self.now.ranks).order == count)))) }
+            && (nat_lt 0 (length (heights_of self.now.ranks).ranks) && ((length (heights_of self.now.ranks).ranks == count) && (length (heights_of self.now.ranks).order == count))))) }
     {
         self.flow.live(0).is_empty()
             && self.ranks.is_forward(0)
+            && 0 < self.ranks.ranks.len()
             && self.ranks.ranks.len() == count
             && self.ranks.order.len() == count
+    }
+
+    /// How many addresses the program has.
+    ///
+    /// ```rust
+    /// let count = table.count();
+    /// ```
+    pub fn count(&self) -> usize
+        ensures { result ≡ length (heights_of self.now.ranks).order }
+    {
+        self.ranks.order.len()
+    }
+
+    /// The address of a rank.
+    ///
+    /// Asks that the rank is that of an address.
+    ///
+    /// ```rust
+    /// let lowest = table.address(0);
+    /// ```
+    pub fn address(&self, rank: usize) -> usize
+        requires { rank < length (heights_of self.now.ranks).order }
+        ensures { slice_get (heights_of self.now.ranks).order rank ≡ Some result }
+    {
+        self.ranks.order[rank]
+    }
+
+    /// Whether an address is there, has a rank, and is read forward, or backward.
+    ///
+    /// ```rust
+    /// let begins_last = table.is_due(true, table.count() - 1, 0);
+    /// ```
+    pub fn is_due(&self, forward: bool, rank: usize, at: usize) -> bool
+        ensures due { result ≡ true → IsDue (heights_of self.now.ranks) forward rank at }
+        ensures other { result ≡ false → IsDue (heights_of self.now.ranks) forward rank at → ⊥ }
+    {
+        self.ranks.is_read(forward, at) && self.ranks.rank(at) == rank
     }
 
     /// The table of a program with so many loops, where the program is linear; `None` where it is not. It errs only where memory is refused.
