@@ -165,7 +165,10 @@ impl<'r, Input: ExecutorInput, B: SearchBudget> Backtracker<'r, Input, B> {
         )?;
         match ended {
             Ended::With(found) => Ok(found),
-            Ended::TooManySteps => Err(self.budget.over()),
+            Ended::TooManySteps => match self.budget.over() {
+                Some(error) => Err(error),
+                None => unreachable!(),
+            },
         }
     }
 
@@ -186,7 +189,10 @@ impl<'r, Input: ExecutorInput, B: SearchBudget> Backtracker<'r, Input, B> {
         )?;
         match ended {
             Ended::With(end) => Ok(end),
-            Ended::TooManySteps => Err(self.budget.over()),
+            Ended::TooManySteps => match self.budget.over() {
+                Some(error) => Err(error),
+                None => unreachable!(),
+            },
         }
     }
 
