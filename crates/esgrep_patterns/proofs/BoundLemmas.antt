@@ -12,13 +12,14 @@ use Rattle.regress_engine_search.specs.Search.{Search}
 use Rattle.regress_engine_input.specs.Views.{View, utf8}
 use Rattle.regress_engine_exec.specs.declared.error.SearchError.{SearchError}
 use Rattle.regress_engine_exec.specs.declared.error.SearchError.TheVariants.{OutOfMemory, TooManySteps}
-use Rattle.regress_engine_exec.specs.BoundedSearches.{CountsStep}
+use Rattle.regress_engine_exec.specs.Counting.{CountsStep}
 use Rattle.regress_programs.specs.declared.slots.Anchored.TheVariants.{No}
 use Rattle.regress_programs.specs.declared.compiled.Compiled.{Compiled}
+use Rattle.regress_programs.specs.Counting.{Counts}
 use Rattle.regress_bounded.specs.declared.bounded.Bounded.{Bounded}
 use Rattle.regress_bounded.specs.Coming.{GivesWithin}
 use Rattle.regress_bounded.specs.Standing.{compiled_of, steps_of, TakesAllInBytes}
-use Rattle.regress_bounded.specs.Stopping.{seen_by, Counts, TakesAll}
+use Rattle.regress_bounded.specs.Stopping.{seen_by, TakesAll}
 use Rattle.regress.proofs.IterationLemmas.{first-given}
 use Rattle.regress.specs.declared.api.Regex.{Regex}
 use Rattle.esgrep_rows.specs.Found.{Found, found_at}
@@ -54,7 +55,8 @@ handed-same (Ok v) x e is err = absurd is
 handed-same (Err y) x e is err = cc (is, err)
 
 -- a step that had too many steps was a search that takes all that there may be
-step-too_long : (s : Search) (from : Option ℕ) (given : Option (Result Match SearchError)) (before after : ℕ) → CountsStep s from given before after
+step-too_long : (s : Search) (from : Option ℕ) (given : Option (Result Match SearchError)) (before after : ℕ)
+    → CountsStep (λ e. e ≡ TooManySteps) s from given (Some before) (Some after)
     → (from ≡ None → given ≡ None) → given ≡ Some (Err TooManySteps) → (program : CompiledRegex) (v : View) (steps : ℕ)
     → s.compiled ≡ program → s.view ≡ v → before ≡ steps → (at : ℕ) × TakesAll No program v at steps
 step-too_long s None given before after counts ended is program v steps made over left = absurd (let none = sym (ended refl) ∙ is in cc none)
@@ -62,7 +64,7 @@ step-too_long s (Some at) None before after counts ended is program v steps made
 step-too_long s (Some at) (Some (Ok m)) before after counts ended is program v steps made over left = absurd (cc is)
 step-too_long s (Some at) (Some (Err OutOfMemory)) before after counts ended is program v steps made over left = absurd (cc is)
 step-too_long s (Some at) (Some (Err TooManySteps)) before after counts ended is program v steps made over left =
-    let all : TakesAll No s.compiled s.view at before = subst (λ (n : ℕ). Counts No s.compiled s.view at before n) counts.0 counts.1 in
+    let all : TakesAll No s.compiled s.view at before = subst (λ (n : Option ℕ). Counts No s.compiled s.view at (Some before) n) (counts refl).0 (counts refl).1 in
     (at, subst (λ (n : ℕ). TakesAll No program v at n) left (subst (λ (w : View). TakesAll No program w at before) over (subst (λ (c : CompiledRegex). TakesAll No c s.view at before) made all)))
 
 -- the same of a call of an iterator

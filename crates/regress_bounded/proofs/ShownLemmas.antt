@@ -1,11 +1,10 @@
 -- What is told of an input is told of the text that it shows.
-use Rattle.std.specs.Prelude.{IsErrOf}
-use Rattle.std.proofs.Common.{◌≡◌, ℕ, Bool, List, Option, Some, None, Result, Ok, Err, option_map, IfOk, IfSome, subst, ◌∙◌}
+use Rattle.std.specs.Prelude.{IfErr, IsErrOf}
+use Rattle.std.proofs.Common.{◌≡◌, ℕ, Bool, List, Option, Result, option_map, IfOk, IfSome, refl, subst, ◌∙◌}
 use Rattle.regress_meaning.specs.Flags.{is_unicode}
 use Rattle.regress_meaning.specs.Table.{Table}
 use Rattle.regress_front_core.specs.FlagWords.{options}
 use Rattle.regress_front.specs.TableViews.{table}
-use Rattle.regress_meaning.specs.Matches.{Item}
 use Rattle.regress_meaning.specs.Offsets.{Begins}
 use Rattle.regress_front.specs.Trees.{Tree}
 use Rattle.regress_match.specs.declared.found.Match.{Match}
@@ -17,7 +16,7 @@ use Rattle.regress_engine_exec.specs.declared.error.SearchError.TheVariants.{Too
 use Rattle.regress_engine_search.specs.Search.{IsItemAtPlaces}
 use Rattle.regress_programs.specs.declared.slots.Anchored.{Anchored}
 use Rattle.regress_programs.specs.Filling.{first_told}
-use Rattle.regress_bounded.specs.Stopping.{seen_by, Counts, TakesAll}
+use Rattle.regress_bounded.specs.Stopping.{seen_by, TakesAll}
 
 module _ (v w : View) (same : v ≡ w) (r : Result (Option Match) SearchError) where
   -- the match is that of the tree in the text
@@ -32,24 +31,11 @@ module _ (v w : View) (same : v ≡ w) (r : Result (Option Match) SearchError) w
   pub places-shown : IfOk r (λ found. IfSome found (λ m. IsItemAtPlaces (reading_of v) (item_of m))) → IfOk r (λ found. IfSome found (λ m. IsItemAtPlaces (reading_of w) (item_of m)))
   places-shown = subst (λ (x : View). IfOk r (λ found. IfSome found (λ m. IsItemAtPlaces (reading_of x) (item_of m)))) same
 
--- what a run or a search results in is the item that it has to be
-pub told-by : (P : Item → Type 0) (IsResult : Option Item → Type 0) (j : Option Item) → ((i : Option Item) → IfSome i P → IsResult i → i ≡ j)
-    → (r : Result (Option Match) SearchError) → IfOk r (λ found. IsResult (option_map item_of found)) → IfOk r (λ found. IfSome found (λ m. P (item_of m)))
-    → IfOk r (λ found. option_map item_of found ≡ j)
-told-by P IsResult j is (Ok None) result inside = is None tt result
-told-by P IsResult j is (Ok (Some m)) result inside = is (Some (item_of m)) inside result
-told-by P IsResult j is (Err e) result inside = tt
-
--- where all steps were counted, the runs of a search take them all
-pub takes-all : {T : Type 0} (r : Result T SearchError) (anchored : Anchored) (compiled : CompiledRegex) (v : View) (at before after : ℕ)
-    → (IsErrOf r TooManySteps → (after ≡ 0) × Counts anchored compiled v at before after) → IsErrOf r TooManySteps → TakesAll anchored compiled v at before
-takes-all r anchored compiled v at before after stopped err =
-    let (none, counts) = stopped err in subst (λ n. Counts anchored compiled v at before n) none counts
-
--- over what is shown too
+-- where a search errs with too few steps, its runs take all of them, over what is shown too
 pub takes-shown : {T : Type 0} (r : Result T SearchError) (anchored : Anchored) (compiled : CompiledRegex) (at steps : ℕ) (v w : View) → v ≡ w
-    → (IsErrOf r TooManySteps → TakesAll anchored compiled v at steps) → IsErrOf r TooManySteps → TakesAll anchored compiled w at steps
-takes-shown r anchored compiled at steps v w same stopped err = subst (λ (x : View). TakesAll anchored compiled x at steps) same (stopped err)
+    → IfErr r (λ e. e ≡ TooManySteps → TakesAll anchored compiled v at steps) → IsErrOf r TooManySteps → TakesAll anchored compiled w at steps
+takes-shown r anchored compiled at steps v w same stopped err =
+    subst (λ (x : View). TakesAll anchored compiled x at steps) same (subst (λ x. IfErr x (λ e. e ≡ TooManySteps → TakesAll anchored compiled v at steps)) err stopped refl)
 
 -- what an input of a program's table and mode shows is what the program reads
 pub seen-as : (v : View) (compiled : CompiledRegex) (kind : Kind) (units : List ℕ) (t : Table) (u : Bool) → v ≡ record { kind = kind; units = units; table = t; unicode = u }

@@ -16,8 +16,7 @@ use Rattle.regress_engine_trying.specs.Counting.{most_counted}
 use Rattle.regress_engine_trying.proofs.CountLemmas.{most-adds, spends-none, spends-then, spends-more}
 use Rattle.regress_engine_exec.specs.declared.error.SearchError.{SearchError}
 use Rattle.regress_engine_exec.specs.declared.error.SearchError.TheVariants.{OutOfMemory, TooManySteps}
-use Rattle.regress_engine_exec.specs.BoundedSearches.{CountsStep}
-use Rattle.regress_engine_exec.specs.Counting.{CountsSearch}
+use Rattle.regress_engine_exec.specs.Counting.{CountsSearch, CountsStep}
 use Rattle.regress_bounded.specs.Coming.{GivesWithin}
 use Rattle.regress_bounded.specs.Together.{TakeTogether, no_search, first_search, CountsTogether, CountsWithLast, TakeAllTogether, CountsAlong, TakesAllAlong}
 
@@ -27,7 +26,7 @@ spends-both v m n a b c first second = subst (Spends a c) (sym (most-adds v m n)
 
 -- a search that gave a match, and those behind it
 counts-more : (s : Search) (from next to : Option ℕ) (m : Match) (found : List Item) (before now after : ℕ)
-    → coming_on (items_from s) from ≡ item_of m ∷ coming_on (items_from s) next → CountsStep {T = Match} s from (Some (Ok m)) before now
+    → coming_on (items_from s) from ≡ item_of m ∷ coming_on (items_from s) next → CountsStep {T = Match} (λ e. e ≡ TooManySteps) s from (Some (Ok m)) (Some before) (Some now)
     → CountsTogether s next found to now after → CountsTogether s from (item_of m ∷ found) to before after
 counts-more s None next to m found before now after first counted rest = absurd (cc)
 counts-more s (Some at) next to m found before now after first (k, takes, spent) (n, together, rest) =
@@ -35,7 +34,7 @@ counts-more s (Some at) next to m found before now after first (k, takes, spent)
 
 -- the same with one more behind them
 last-more : (s : Search) (from next : Option ℕ) (m : Match) (found : List Item) (before now after : ℕ)
-    → coming_on (items_from s) from ≡ item_of m ∷ coming_on (items_from s) next → CountsStep {T = Match} s from (Some (Ok m)) before now
+    → coming_on (items_from s) from ≡ item_of m ∷ coming_on (items_from s) next → CountsStep {T = Match} (λ e. e ≡ TooManySteps) s from (Some (Ok m)) (Some before) (Some now)
     → CountsWithLast s next found now after → CountsWithLast s from (item_of m ∷ found) before after
 last-more s None next m found before now after first counted rest = absurd (cc)
 last-more s (Some at) next m found before now after first (k, takes, spent) (last, n, j, together, own, rest) = (
@@ -84,19 +83,19 @@ module _ {S : Type 0} (search_by : S → Search) (next_from : S → Option ℕ) 
   -- a call that gave nothing, or had too few steps
   ended-here : (at : ℕ) (now over : S) → next_from now ≡ Some at → gives now None over → CountsWithLast (search_by now) (next_from now) [] (budget_of now) (budget_of over)
   ended-here at now over is step =
-      let counted : CountsStep {T = Match} (search_by now) (Some at) None (budget_of now) (budget_of over) =
-      subst (λ p. CountsStep {T = Match} (search_by now) p None (budget_of now) (budget_of over)) is step.counted in
+      let counted = subst (λ p. CountsStep {T = Match} (λ e. e ≡ TooManySteps) (search_by now) p None (Some (budget_of now)) (Some (budget_of over))) is step.counted in
       subst (λ p. CountsWithLast (search_by now) p [] (budget_of now) (budget_of over)) (sym is) (last-only (search_by now) at (budget_of now) (budget_of over) counted)
 
   stopped-here : (now over : S) → gives now (Some (Err TooManySteps)) over → CountsWithLast (search_by now) (next_from now) [] (budget_of now) 0
   stopped-here now over step = by_position (next_from now) refl step.counted
     where
-      by_position : (p : Option ℕ) → next_from now ≡ p → CountsStep {T = Match} (search_by now) p (Some (Err TooManySteps)) (budget_of now) (budget_of over)
+      by_position : (p : Option ℕ) → next_from now ≡ p → CountsStep {T = Match} (λ e. e ≡ TooManySteps) (search_by now) p (Some (Err TooManySteps)) (Some (budget_of now)) (Some (budget_of over))
           → CountsWithLast (search_by now) (next_from now) [] (budget_of now) 0
       by_position None is counted = absurd (let none = step.ended is in cc)
-      by_position (Some at) is (none, counted) =
+      by_position (Some at) is counted =
           subst (λ p. CountsWithLast (search_by now) p [] (budget_of now) 0) (sym is)
-          (subst (λ left. CountsWithLast (search_by now) (Some at) [] (budget_of now) left) none (last-only (search_by now) at (budget_of now) (budget_of over) counted))
+          (last-only (search_by now) at (budget_of now) 0
+          (subst (CountsSearch (program_of (search_by now).compiled) (search_by now).view at (Some (budget_of now))) (counted refl).0 (counted refl).1))
 
   -- over an iteration
   pub counts-along : (from : S) → CountsAlong search_by next_from budget_of from

@@ -7,8 +7,9 @@ use Rattle.regress_matched.specs.Giving.{GivesFound}
 use Rattle.regress_engine_search.specs.Search.{Search, IsMatchOf, items_from, places_behind}
 use Rattle.regress_engine_code.specs.Standing.{names_of}
 use Rattle.regress_engine_exec.specs.declared.error.SearchError.{SearchError}
-use Rattle.regress_engine_exec.specs.BoundedSearches.{CountsStep}
-use Rattle.regress_engine_exec.specs.BoundedSearches as executor
+use Rattle.regress_engine_exec.specs.declared.error.SearchError.TheVariants.{TooManySteps}
+use Rattle.regress_engine_exec.specs.Counting.{CountsStep}
+use Rattle.regress_engine_exec.specs.Searches as executor
 use Rattle.regress_bounded.specs.declared.matches.BoundedMatches.{BoundedMatches}
 
 -- the search: with which program, in what text
@@ -58,7 +59,7 @@ pub record GivesWithin {S : Type 0} (search_by : S → Search) (next_from : S �
   pub first : GivesFound (IsMatchOf (search_by old)) (coming_on (items_from (search_by old)) (next_from old)) r (coming_on (items_from (search_by new)) (next_from new))
   pub ends : UnlessFound r (next_from new ≡ None)
   pub ended : next_from old ≡ None → r ≡ None
-  pub counted : CountsStep (search_by old) (next_from old) r (budget_of old) (budget_of new)
+  pub counted : CountsStep (λ e. e ≡ TooManySteps) (search_by old) (next_from old) r (Some (budget_of old)) (Some (budget_of new))
 
 -- the same of the iterator over the matches of a program
 abbrev pub GivesNext : {I : Type 0} {g : _} → BoundedMatches I g → Option (Result Match SearchError) → BoundedMatches I g → Type 0

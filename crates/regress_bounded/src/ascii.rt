@@ -21,11 +21,11 @@ ghost use Rattle.regress_programs.specs.Outcomes.{outcome_at};
 
 use crate::bounded::Bounded;
 use crate::matches::BoundedMatches;
-use crate::searching::first_within;
 use regress_engine_exec::SearchError;
 use regress_engine_inputs::AsciiInput;
+use regress_engine_search::StepsLeft;
 use regress_match::Match;
-use regress_programs::Anchored;
+use regress_programs::{Anchored, first_within};
 
 impl<'r> Bounded<'r> {
     ghost use Rattle.regress_bounded.specs.Coming.{search_by, next_from, searched, coming, budget_of};
@@ -53,7 +53,8 @@ impl<'r> Bounded<'r> {
     {
         let program = &self.compiled.byte_program;
         let input = AsciiInput::new(text, program.flags().is_unicode(), program.tables());
-        first_within(self.alloc, program, input, Anchored::No, 0, self.steps)
+        let (alloc, steps) = (self.alloc, StepsLeft(self.steps));
+        first_within(alloc, program, input, Anchored::No, 0, steps)
     }
 
     /// All matches in a text of ASCII, one after another, as `find_iter` answers them.
@@ -149,6 +150,7 @@ impl<'r> Bounded<'r> {
     {
         let program = &self.compiled.byte_program;
         let input = AsciiInput::new(text, program.flags().is_unicode(), program.tables());
-        first_within(self.alloc, program, input, Anchored::Yes, start, self.steps)
+        let (alloc, steps) = (self.alloc, StepsLeft(self.steps));
+        first_within(alloc, program, input, Anchored::Yes, start, steps)
     }
 }

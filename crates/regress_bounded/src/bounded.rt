@@ -19,11 +19,11 @@ ghost use Rattle.regress_programs.specs.Coming.{BeginsAndEndsAtStarts, HoldsOfEa
 ghost use Rattle.regress_programs.specs.Outcomes.{outcome_at};
 
 use crate::matches::BoundedMatches;
-use crate::searching::first_within;
 use regress_engine_exec::SearchError;
 use regress_engine_inputs::Utf8Input;
+use regress_engine_search::StepsLeft;
 use regress_match::Match;
-use regress_programs::{Anchored, Compiled};
+use regress_programs::{Anchored, Compiled, first_within};
 use std::alloc::Global;
 
 /// A compiled pattern, and a number of steps that each search with it may take: from `Regex::within`.
@@ -81,7 +81,8 @@ impl<'r> Bounded<'r> {
     {
         let program = &self.compiled.byte_program;
         let input = Utf8Input::new(text, program.flags().is_unicode(), program.tables());
-        first_within(self.alloc, program, input, Anchored::No, 0, self.steps)
+        let (alloc, steps) = (self.alloc, StepsLeft(self.steps));
+        first_within(alloc, program, input, Anchored::No, 0, steps)
     }
 
     /// Whether there is a match in a text, as `Regex::is_match` answers it ("RegExp.prototype.test"). Errs as `find` does.
@@ -119,8 +120,8 @@ impl<'r> Bounded<'r> {
     {
         let program = &self.compiled.byte_program;
         let input = Utf8Input::new(text, program.flags().is_unicode(), program.tables());
-        let alloc = self.alloc;
-        match first_within(alloc, program, input, Anchored::No, start, self.steps) {
+        let (alloc, steps) = (self.alloc, StepsLeft(self.steps));
+        match first_within(alloc, program, input, Anchored::No, start, steps) {
             Ok(found) => Ok(found.is_some()),
             Err(error) => Err(error),
         }
@@ -219,6 +220,7 @@ impl<'r> Bounded<'r> {
     {
         let program = &self.compiled.byte_program;
         let input = Utf8Input::new(text, program.flags().is_unicode(), program.tables());
-        first_within(self.alloc, program, input, Anchored::Yes, start, self.steps)
+        let (alloc, steps) = (self.alloc, StepsLeft(self.steps));
+        first_within(alloc, program, input, Anchored::Yes, start, steps)
     }
 }

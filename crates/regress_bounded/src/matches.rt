@@ -7,9 +7,9 @@ ghost use Rattle.regress_engine_input.specs.Views.{reading_of};
 ghost use Rattle.regress_programs.specs.Positions.{IsPlaced, IsPlaced-prop};
 
 use regress_engine_code::CompiledRegex;
-use regress_engine_exec::{BoundedExecutor, Scratch, SearchError};
+use regress_engine_exec::{Backtracker, BoundedExecutor, Scratch, SearchError};
 use regress_engine_inputs::Utf8Input;
-use regress_engine_search::{ExecutorInput, Shown};
+use regress_engine_search::{ExecutorInput, Shown, StepsLeft};
 use regress_match::Match;
 use regress_matched::TextMatches;
 use std::alloc::Global;
@@ -53,7 +53,8 @@ impl<'r, Input: ExecutorInput> BoundedMatches<'r, Input> {
         ensures counted { CountsAlong search_by next_from budget_of result }
     {
         let scratch = Scratch::new(alloc);
-        let executor = BoundedExecutor::with_scratch(alloc, program, input, scratch, steps);
+        let budget = StepsLeft(steps);
+        let executor = Backtracker::with_budget(alloc, program, input, scratch, budget);
         let position = executor.initial_position(start);
         BoundedMatches { executor, position }
     }

@@ -12,11 +12,11 @@ ghost use Rattle.regress_programs.specs.declared.slots.Anchored.TheVariants.{No,
 ghost use Rattle.regress_programs.specs.Outcomes.{outcome_at};
 
 use crate::bounded::Bounded;
-use crate::filling::find_into_within;
 use regress_engine_exec::{Scratch, SearchError};
 use regress_engine_inputs::{Ucs2Input, Utf8Input, Utf16Input};
+use regress_engine_search::StepsLeft;
 use regress_match::Range;
-use regress_programs::Anchored;
+use regress_programs::{Anchored, find_into_within};
 
 impl<'r> Bounded<'r> {
     ghost use Rattle.regress_bounded.specs.Standing.{StandsFor, StandsInUnits, HasTree, HasTreeInUnits, tree_list, tree_list_in_units, tree_outcome, tree_outcome_in_units, TakesAllInBytes, TakesAllInUnits};
@@ -59,7 +59,7 @@ impl<'r> Bounded<'r> {
     {
         let program = &self.compiled.byte_program;
         let input = Utf8Input::new(text, program.flags().is_unicode(), program.tables());
-        let (alloc, steps) = (self.alloc, self.steps);
+        let (alloc, steps) = (self.alloc, StepsLeft(self.steps));
         find_into_within(
             alloc,
             scratch,
@@ -104,7 +104,7 @@ impl<'r> Bounded<'r> {
     {
         let program = &self.compiled.byte_program;
         let input = Utf8Input::new(text, program.flags().is_unicode(), program.tables());
-        let (alloc, steps) = (self.alloc, self.steps);
+        let (alloc, steps) = (self.alloc, StepsLeft(self.steps));
         find_into_within(
             alloc,
             scratch,
@@ -147,7 +147,7 @@ impl<'r> Bounded<'r> {
     {
         let program = &self.compiled.unit_program;
         let input = Utf16Input::new(units, program.flags().is_unicode(), program.tables());
-        let (alloc, steps) = (self.alloc, self.steps);
+        let (alloc, steps) = (self.alloc, StepsLeft(self.steps));
         find_into_within(
             alloc,
             scratch,
@@ -191,7 +191,7 @@ impl<'r> Bounded<'r> {
     {
         let program = &self.compiled.unit_program;
         let input = Utf16Input::new(units, program.flags().is_unicode(), program.tables());
-        let (alloc, steps) = (self.alloc, self.steps);
+        let (alloc, steps) = (self.alloc, StepsLeft(self.steps));
         find_into_within(
             alloc,
             scratch,
@@ -231,7 +231,7 @@ impl<'r> Bounded<'r> {
     {
         let program = &self.compiled.unit_program;
         let input = Ucs2Input::new(units, program.flags().is_unicode(), program.tables());
-        let (alloc, steps) = (self.alloc, self.steps);
+        let (alloc, steps) = (self.alloc, StepsLeft(self.steps));
         find_into_within(
             alloc,
             scratch,
@@ -272,7 +272,7 @@ impl<'r> Bounded<'r> {
     {
         let program = &self.compiled.unit_program;
         let input = Ucs2Input::new(units, program.flags().is_unicode(), program.tables());
-        let (alloc, steps) = (self.alloc, self.steps);
+        let (alloc, steps) = (self.alloc, StepsLeft(self.steps));
         find_into_within(
             alloc,
             scratch,

@@ -17,11 +17,11 @@ ghost use Rattle.regress_programs.specs.Units.{IsMatchInUnits};
 
 use crate::bounded::Bounded;
 use crate::matches::BoundedMatches;
-use crate::searching::first_within;
 use regress_engine_exec::SearchError;
 use regress_engine_inputs::{Ucs2Input, Utf16Input};
+use regress_engine_search::StepsLeft;
 use regress_match::Match;
-use regress_programs::Anchored;
+use regress_programs::{Anchored, first_within};
 
 impl<'r> Bounded<'r> {
     ghost use Rattle.regress_bounded.specs.Coming.{search_by, next_from, coming, budget_of};
@@ -120,7 +120,8 @@ impl<'r> Bounded<'r> {
     {
         let program = &self.compiled.unit_program;
         let input = Utf16Input::new(units, program.flags().is_unicode(), program.tables());
-        first_within(self.alloc, program, input, Anchored::Yes, start, self.steps)
+        let (alloc, steps) = (self.alloc, StepsLeft(self.steps));
+        first_within(alloc, program, input, Anchored::Yes, start, steps)
     }
 
     /// The match that begins at `start` in 16-bit units that are each one character, an offset in units, its ranges told in
@@ -142,6 +143,7 @@ impl<'r> Bounded<'r> {
     {
         let program = &self.compiled.unit_program;
         let input = Ucs2Input::new(units, program.flags().is_unicode(), program.tables());
-        first_within(self.alloc, program, input, Anchored::Yes, start, self.steps)
+        let (alloc, steps) = (self.alloc, StepsLeft(self.steps));
+        first_within(alloc, program, input, Anchored::Yes, start, steps)
     }
 }

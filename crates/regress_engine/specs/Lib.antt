@@ -1,6 +1,8 @@
 pub use Rattle.regress_engine_code.specs.Laid
 pub use Rattle.regress_engine_code.specs.Standing
 pub use Rattle.regress_engine_code.specs.Written
+pub use Rattle.regress_engine_exec.specs.Counting
+pub use Rattle.regress_engine_exec.specs.Searches
 pub use Rattle.regress_engine_input.specs.References
 pub use Rattle.regress_engine_input.specs.Views
 pub use Rattle.regress_engine_inputs.specs.InputViews

@@ -16,7 +16,9 @@
 pub use regress_engine_analysis::{Known, Turn};
 pub use regress_engine_code::{CompiledRegex, emit, emit_units};
 pub use regress_engine_copying::PikeVMExecutor;
-pub use regress_engine_exec::{BacktrackExecutor, BoundedExecutor, Scratch, SearchError};
+pub use regress_engine_exec::{
+    BacktrackExecutor, Backtracker, BoundedExecutor, Scratch, SearchBudget, SearchError,
+};
 pub use regress_engine_input::{
     Backward, CodeUnit, Direction, ElementType, Forward, InputIndexer, PositionType,
     ascii_tests_see_bytes, cursor, inputs_go_back, inputs_tell_bytes, inputs_tell_texts,
@@ -42,7 +44,7 @@ pub use regress_engine_runs::{
     searches_find_matches, searches_may_skip,
 };
 pub use regress_engine_search::{
-    AnyText, AsciiText, Executor, ExecutorInput, Prefilter, SearchContext, Shown, TextKind,
-    executors_agree, executors_list_matches, executors_match_as_trees, fill_slots,
-    start_predicates_may_skip,
+    AnyText, AsciiText, Executor, ExecutorInput, Prefilter, SearchContext, Shown, StepsLeft,
+    TextKind, Unbounded, executors_agree, executors_list_matches, executors_match_as_trees,
+    fill_slots, start_predicates_may_skip,
 };

@@ -31,8 +31,7 @@ use regress_engine_undo::{Frame, Memory, Spot, Undo, is_ahead};
 use regress_front_core::GroupData;
 use std::alloc::AllocError;
 
-/// Goes on behind a lookaround or an atomic group whose contents have no answer, where it is negated, and answers whether it
-/// is.
+/// Goes on behind a lookaround or an atomic group whose contents have no answer, where it is negated, and answers whether it is.
 #[inline]
 fn exhaust(frame: &Frame, spot: &mut Spot) -> bool
     ensures direction { spot.new.forward ≡ frame.now.spot.forward }
@@ -165,9 +164,8 @@ impl<'a, Input: ExecutorInput> Attempt<'a, Input> {
         }
     }
 
-    /// The offset up to which the body of a lazy loop surely takes one byte after another ahead of one, at most so many, and what
-    /// is taken first behind the loop takes none of them: no match goes on from a place before it. The offset itself where that
-    /// is not told.
+    /// The offset up to which the body of a lazy loop surely takes one byte after another ahead of one, at most so many, and what is
+    /// taken first behind the loop takes none of them: no match goes on from a place before it. The offset itself where it is not told.
     #[inline(always)]
     fn passed_before(
         &self,

@@ -224,8 +224,7 @@ impl<'a, Input: ExecutorInput> Attempt<'a, Input> {
         Ok(going)
     }
 
-    /// The first exit of a lazy one-character loop from an offset on that may lead on; where none does, the last one that was
-    /// looked at.
+    /// The first exit of a lazy one-character loop from an offset on that may lead on; where none does, the last one that was looked at.
     fn exit_ahead(
         &self,
         at: usize,

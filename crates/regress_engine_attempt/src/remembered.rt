@@ -38,8 +38,7 @@ pub struct Remembered {
 }
 
 impl Remembered {
-    /// Nothing is remembered. Failures are kept once more was undone and passed over than normal searches do in a text of so many
-    /// units.
+    /// Nothing is remembered. Failures are kept once more was undone and passed over than normal searches do in a text of so many units.
     ///
     /// ```rust
     /// let mut remembered = Remembered::new(alloc, 1000);
@@ -257,8 +256,7 @@ impl<'a, Input: ExecutorInput> Attempt<'a, Input> {
         remembered.failures = self.nothing_known(remembered.alloc);
     }
 
-    /// Learns what a record shows that is about to be undone: where it is that of a state that was tried, no run from there has an
-    /// answer.
+    /// Learns what a record shows that is about to be undone: where it is that of a state that was tried, no run from there has an answer.
     pub(crate) fn learn(
         &self,
         undo: &Undo,

@@ -1,6 +1,6 @@
 //! One-character loops.
-ghost use Rattle.std.specs.Prelude.{◌+◌, ◌≤◌, IfOk, OnOk};
-ghost use Rattle.regress_engine_insn.specs.Instructions.{single_loop};
+ghost use Rattle.std.specs.Prelude.{◌≡◌, ◌+◌, ◌≤◌, true, IfOk, OnOk};
+ghost use Rattle.regress_engine_insn.specs.Instructions.{Stands, goal, single_loop};
 ghost use Rattle.regress_engine_code.specs.Standing.{program_of};
 ghost use Rattle.regress_engine_search.specs.Ready.{IsBody};
 ghost use Rattle.regress_engine_search.specs.Search.{Suits};
@@ -12,12 +12,21 @@ ghost use Rattle.regress_engine_trying.specs.Trying.{Does, IsHeldIn};
 use crate::attempt::Attempt;
 use crate::counts::Counts;
 use regress_engine_advance::{after_times, as_far};
+use regress_engine_insn::Insn;
 use regress_engine_search::ExecutorInput;
 use regress_engine_singles::is_possessive;
 use regress_engine_undo::{Memory, Spot};
 use std::alloc::AllocError;
 
 impl<'a, Input: ExecutorInput> Attempt<'a, Input> {
+    /// Whether a goal stands at an address.
+    #[inline]
+    fn is_goal(&self, at: usize) -> bool
+        ensures { result ≡ true → Stands (program_of self.now.program.now) at goal }
+    {
+        matches!(self.program.insns().get(at), Some(Insn::Goal))
+    }
+
     /// Does a one-character loop: goes on at one of its ways, and later at the others. It answers whether there is any.
     pub(crate) fn repeat(
         &self,
@@ -64,6 +73,11 @@ impl<'a, Input: ExecutorInput> Attempt<'a, Input> {
             counts.pass(spot.offset, far);
             if spot.forward && is_possessive(self.program, spot.at) {
                 counts.spare = counts.spare.saturating_sub(far.abs_diff(near) / 8);
+                spot.at = at;
+                spot.offset = far;
+                return Ok(true);
+            }
+            if self.is_goal(at) {
                 spot.at = at;
                 spot.offset = far;
                 return Ok(true);

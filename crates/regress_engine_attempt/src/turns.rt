@@ -153,8 +153,7 @@ impl<'a, Input: ExecutorInput> Attempt<'a, Input> {
         Ok(())
     }
 
-    /// Does an alternative with which iterations begin that are one character of a class each. It is apart so that no step makes
-    /// room for it.
+    /// Does an alternative with which iterations begin that are one character of a class each. It is apart so that no step makes room for it.
     #[inline(never)]
     pub(crate) fn choose(
         &self,

@@ -41,8 +41,7 @@ impl<'a, Input: ExecutorInput> Attempt<'a, Input> {
         at
     }
 
-    /// The address at which it continues from two ways, by what stands beside an offset: that of both where neither surely
-    /// leads nowhere.
+    /// The address at which it continues from two ways, by what stands beside an offset: that of both where neither surely leads nowhere.
     #[inline(always)]
     pub(crate) fn way_of_two(&self, at: usize, second: usize, forward: bool, offset: usize) -> usize
         requires suits { Suits (program_of self.now.program.now) (Input.view self.now.input) }

@@ -1,11 +1,14 @@
 -- How many steps the runs of a search take, and how many of them are counted.
-use Rattle.std.specs.Prelude.{◌≡◌, ℕ, ◌+◌, ◌≤◌, Option, Some, None}
+use Rattle.std.specs.Prelude.{◌≡◌, ℕ, ◌+◌, ◌≤◌, Option, Some, None, Result, Ok, Err}
 use Rattle.regress_meaning.specs.Meaning.{Forward}
 use Rattle.regress_engine_input.specs.Views.{View, input_of}
 use Rattle.regress_engine_insn.specs.Instructions.{Program}
 use Rattle.regress_engine_runs.specs.States.{Whole}
+use Rattle.regress_engine_code.specs.Standing.{program_of}
 use Rattle.regress_engine_search.specs.Budgets.{Spends}
+use Rattle.regress_engine_search.specs.Search.{Search}
 use Rattle.regress_engine_attempt.specs.Counting.{RunsIn, most_counted}
+pub use Rattle.regress_engine_attempt.specs.Counting.{CountsRun}
 
 module _ (program : Program) (v : View) where
   -- The runs of a search from an offset on take so many steps in all.
@@ -24,3 +27,15 @@ module _ (program : Program) (v : View) where
   -- A search from one offset has come to another, and no more steps were counted on the way than its runs there take.
   abbrev pub CountsUpTo : (at from : ℕ) → Option ℕ → Option ℕ → Type 0
   CountsUpTo at from before now = (k m n : ℕ) × (k + m ≤ n) × Spends before now (most_counted v k) × Takes from m × Takes at n
+
+-- From so many steps that may be counted to so many, no more were counted than a search from an offset takes; and none are left where
+-- it errs since there would be too many. Nothing is said where it errs otherwise.
+abbrev pub CountsFrom : {T E : Type 0} → (IsOver : E → Type 0) → Search → (at : ℕ) → Result T E → (before after : Option ℕ) → Type 0
+CountsFrom IsOver s at (Ok found) before after = CountsSearch (program_of s.compiled) s.view at before after
+CountsFrom IsOver s at (Err e) before after = IsOver e → (after ≡ Some 0) × CountsSearch (program_of s.compiled) s.view at before after
+
+-- the same by a step of an iterator from a position; from none nothing is counted
+abbrev pub CountsStep : {T E : Type 0} → (IsOver : E → Type 0) → Search → Option ℕ → Option (Result T E) → (before after : Option ℕ) → Type 0
+CountsStep IsOver s None given before after = after ≡ before
+CountsStep IsOver s (Some at) None before after = CountsSearch (program_of s.compiled) s.view at before after
+CountsStep IsOver s (Some at) (Some r) before after = CountsFrom IsOver s at r before after

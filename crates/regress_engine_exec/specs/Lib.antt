@@ -1,4 +1,3 @@
 pub mod Searches
 pub mod Counting
 pub mod ErrorTexts
-pub mod BoundedSearches

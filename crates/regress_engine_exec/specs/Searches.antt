@@ -1,19 +1,20 @@
 -- What an executor searches, and what it holds.
-use Rattle.std.specs.Prelude.{List, map}
+use Rattle.std.specs.Prelude.{ℕ, List, map}
 use Rattle.regress_engine_insn.specs.Instructions.{Program}
 use Rattle.regress_engine_code.specs.Standing.{program_of}
 use Rattle.regress_engine_runs.specs.States.{Marks}
 use Rattle.regress_engine_search.specs.Search.{Search}
 use Rattle.regress_engine_search.specs.StateViews.{marks_of}
+use Rattle.regress_engine_search.specs.declared.budget.StepsLeft.{StepsLeft}
 use Rattle.regress_engine_exec.specs.declared.scratch.Scratch.{Scratch}
-use Rattle.regress_engine_exec.specs.declared.search.BacktrackExecutor.{BacktrackExecutor}
+use Rattle.regress_engine_exec.specs.declared.search.Backtracker.{Backtracker}
 
 -- what is searched
-abbrev pub search_in : {I : Type 0} {g : _} → BacktrackExecutor I g → Search
+abbrev pub search_in : {I B : Type 0} {g : _} → Backtracker I B g → Search
 search_in {g = g} e = record { compiled = e.context.program.now; view = g.shown e.context.input; searchable = e.context.searchable }
 
 -- the program
-abbrev pub program_in : {I : Type 0} {g : _} → BacktrackExecutor I g → Program
+abbrev pub program_in : {I B : Type 0} {g : _} → Backtracker I B g → Program
 program_in e = program_of e.context.program.now
 
 -- the groups that are held
@@ -21,5 +22,13 @@ abbrev pub groups_of : Scratch → List Marks
 groups_of s = map marks_of s.memory.groups.items
 
 -- the same by an executor
-abbrev pub groups_in : {I : Type 0} {g : _} → BacktrackExecutor I g → List Marks
+abbrev pub groups_in : {I B : Type 0} {g : _} → Backtracker I B g → List Marks
 groups_in e = groups_of e.scratch
+
+-- what its steps are counted against
+abbrev pub budget_of : {I B : Type 0} {g : _} → Backtracker I B g → B
+budget_of e = e.budget
+
+-- how many steps one with a bound may still take
+abbrev pub steps_of : {I : Type 0} {g : _} → Backtracker I StepsLeft g → ℕ
+steps_of e = e.budget.0

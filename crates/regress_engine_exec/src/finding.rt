@@ -71,28 +71,9 @@ pub(crate) fn first_from<Input: ExecutorInput, B: Budget>(
     }
 }
 
-/// Runs the program from an offset. It answers where the run's answer ends, whose groups the scratch has.
-pub(crate) fn run_from<Input: ExecutorInput>(
-    context: &SearchContext<'_, Input>,
-    scratch: &mut Scratch,
-    remembered: &mut Remembered,
-    offset: usize,
-) -> Result<Option<usize>, AllocError>
-    requires place { IsAtPlace (reading_of (Input.view context.now.input)) offset }
-    requires so { Remembers (searched Input.view context.now) remembered.old }
-    ensures answer { IfOk result (λ end. IsAnswer (program_of context.now.program.now) (input_of (Input.view context.now.input)) offset end (groups_of scratch.new)) }
-    ensures so { Remembers (searched Input.view context.now) remembered.new }
-{
-    let attempt = Attempt {
-        program: context.program,
-        input: context.input,
-        start: offset,
-    };
-    attempt.run(0, &mut scratch.memory, &mut scratch.answer, remembered)
-}
-
-/// Runs the program from an offset, as `run_from` does; or it answers that no more steps may be counted.
-pub(crate) fn run_within<Input: ExecutorInput, B: Budget>(
+/// Runs the program from an offset. It answers where the run's answer ends, whose groups the scratch has; or that no more steps may
+/// be counted.
+pub(crate) fn run_from<Input: ExecutorInput, B: Budget>(
     context: &SearchContext<'_, Input>,
     scratch: &mut Scratch,
     remembered: &mut Remembered,

@@ -1,7 +1,7 @@
 //! The executor that undoes: it tries the paths through a program one after another, on one state and one stack of records.
 #![tactic(auto)]
 
-mod bounded;
+mod budget;
 mod error;
 mod executor;
 mod finding;
@@ -10,8 +10,8 @@ mod scratch;
 mod search;
 mod stepping;
 
-pub use bounded::BoundedExecutor;
+pub use budget::SearchBudget;
 pub use error::SearchError;
 pub use regress_engine_search::{ExecutorInput, Shown};
 pub use scratch::Scratch;
-pub use search::BacktrackExecutor;
+pub use search::{BacktrackExecutor, Backtracker, BoundedExecutor};

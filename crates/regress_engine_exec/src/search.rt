@@ -1,5 +1,5 @@
 //! The search for the first place from which a run has an answer.
-ghost use Rattle.std.specs.Prelude.{◌≡◌, false, option_map, IfOk, IfSome, OnErr};
+ghost use Rattle.std.specs.Prelude.{◌≡◌, false, Some, option_map, IfOk, IfErr, IfSome, OnErr};
 ghost use Rattle.regress_match.specs.GroupViews.{names_of_match};
 ghost use Rattle.regress_match.specs.Views.{item_of};
 ghost use Rattle.regress_engine_code.specs.Standing.{names_of, program_of};
@@ -12,30 +12,45 @@ ghost use Rattle.regress_engine_runs.specs.Meets.{IsAtPlace};
 ghost use Rattle.regress_engine_search.specs.Answering.{IsAnswer, IsFound, IsOutcome};
 ghost use Rattle.regress_engine_search.specs.Search.{IsMadeOf, IsItemAtPlaces, IsWritten};
 ghost use Rattle.regress_engine_attempt.specs.Attempts.{Remembers, world_of};
+ghost use Rattle.regress_engine_attempt.specs.Counting.{CountsRun};
+ghost use Rattle.regress_engine_exec.specs.Counting.{CountsSearch};
 
+use crate::budget::SearchBudget;
 use crate::finding::{first_from, run_from};
 use crate::scratch::Scratch;
 use regress_engine_attempt::Remembered;
 use regress_engine_code::CompiledRegex;
 use regress_engine_inputs::Utf8Input;
-use regress_engine_search::{Ended, ExecutorInput, SearchContext, Shown, Unbounded, fill_slots};
+use regress_engine_search::{
+    Ended, ExecutorInput, SearchContext, Shown, StepsLeft, Unbounded, fill_slots,
+};
 use regress_match::{Match, MatchProducer, Range};
-use std::alloc::{AllocError, Global};
+use std::alloc::Global;
 
-/// Finds the matches of a program in a text. It holds one state and one stack of what is to be undone, its scratch, and what it
-/// remembers of failures; it keeps these from one search to the next, and no call of it calls it again.
+/// Finds the matches of a program in a text, and counts the steps of all its searches against a budget. It holds one state and one
+/// stack of what is to be undone, its scratch, and what it remembers of failures; it keeps these from one search to the next, and no
+/// call of it calls it again.
 #[derive(Debug, Drop)]
-pub struct BacktrackExecutor<'r, Input: Shown> {
+pub struct Backtracker<'r, Input: Shown, B> {
     alloc: Global,
     pub(crate) context: SearchContext<'r, Input>,
     scratch: Scratch,
     remembered: Remembered,
+    budget: B,
     ghost so: { ∥ Remembers (world_of context.program.now (Input.shown context.input)) remembered ∥₁ },
 }
 
-impl<'r, Input: ExecutorInput> BacktrackExecutor<'r, Input> {
-    ghost use Rattle.regress_engine_exec.specs.Searches.{groups_in, program_in};
+/// Finds the matches of a program in a text, however many steps that takes.
+pub type BacktrackExecutor<'r, Input> = Backtracker<'r, Input, Unbounded>;
 
+/// Finds the matches of a program in a text, as `BacktrackExecutor` does, in so many steps for all its searches. A search that would
+/// take more errs with `TooManySteps`: only where its runs take at least as many steps as were left, counted as below.
+///
+/// A step does the instruction of one state, or drops the state, and one more is counted for each 64 units that a one-character loop
+/// passes over. What looks for the next place where a match may begin is not counted.
+pub type BoundedExecutor<'r, Input> = Backtracker<'r, Input, StepsLeft>;
+
+impl<'r, Input: ExecutorInput> BacktrackExecutor<'r, Input> {
     /// The executor of a program over a text.
     ///
     /// Asks that the program is made for the text: of units over UTF-16 and UCS-2, else of bytes, with the text's tables and
@@ -70,13 +85,56 @@ impl<'r, Input: ExecutorInput> BacktrackExecutor<'r, Input> {
         ensures program { (⟦<BacktrackExecutor<'r, Input> as MatchProducer>⟧.search_of result).compiled ≡ program.entry.now }
         ensures text { (⟦<BacktrackExecutor<'r, Input> as MatchProducer>⟧.search_of result).view ≡ Input.view input }
     {
+        Backtracker::with_budget(alloc, program, input, scratch, Unbounded)
+    }
+}
+
+impl<'r, Input: ExecutorInput> BoundedExecutor<'r, Input> {
+    ghost use Rattle.regress_engine_exec.specs.Searches.{steps_of};
+
+    /// How many steps its searches may still take.
+    ///
+    /// ```rust
+    /// let left = executor.steps_left();
+    /// ```
+    pub fn steps_left(&self) -> usize
+        ensures { result ≡ steps_of self.now }
+    {
+        self.budget.0
+    }
+}
+
+impl<'r, Input: ExecutorInput, B: SearchBudget> Backtracker<'r, Input, B> {
+    ghost use Rattle.regress_engine_exec.specs.Searches.{budget_of, groups_in, program_in, search_in};
+
+    /// The executor of a program over a text, with room that other searches have left, and a budget for all its searches.
+    ///
+    /// Asks that the program is made for the text: of units over UTF-16 and UCS-2, else of bytes, with the text's tables and
+    /// mode.
+    ///
+    /// ```rust
+    /// let mut executor = Backtracker::with_budget(alloc, &program, input, scratch, StepsLeft(1_000_000));
+    /// ```
+    pub fn with_budget(
+        alloc: Global,
+        program: &'r CompiledRegex,
+        input: Input,
+        scratch: Scratch,
+        budget: B,
+    ) -> Self
+        requires made { IsMadeOf program.now (Input.view input) }
+        ensures program { (search_in result).compiled ≡ program.entry.now }
+        ensures text { (search_in result).view ≡ Input.view input }
+        ensures budget { budget_of result ≡ budget }
+    {
         let context = SearchContext::new(program, input);
         let remembered = Remembered::new(alloc, context.text_len());
-        BacktrackExecutor {
+        Backtracker {
             alloc,
             context,
             scratch,
             remembered,
+            budget,
         }
     }
 
@@ -91,36 +149,51 @@ impl<'r, Input: ExecutorInput> BacktrackExecutor<'r, Input> {
 
     /// Searches from an offset on. It answers the offset from which the first run has an answer, and where that ends; the answer's
     /// groups are then held.
-    fn search(&mut self, offset: usize) -> Result<Option<(usize, usize)>, AllocError>
+    fn search(&mut self, offset: usize) -> Result<Option<(usize, usize)>, B::Error>
         requires { IsAtPlace (reading_of (Input.view self.old.context.input)) offset }
         ensures found { IfOk result (λ found. IsFound (program_in self.old) (input_of (Input.view self.old.context.input)) offset found (groups_in self.new)) }
+        ensures counted { IfOk result (λ _. CountsSearch (program_in self.old) (Input.view self.old.context.input) offset (B.left (budget_of self.old)) (B.left (budget_of self.new))) }
+        ensures stopped { IfErr result (λ e. B.is_over e → (B.left (budget_of self.new) ≡ Some 0) × CountsSearch (program_in self.old) (Input.view self.old.context.input) offset (B.left (budget_of self.old)) (B.left (budget_of self.new))) }
         ensures kept { self.new.context ≡ self.old.context }
     {
         let ended = first_from(
             &self.context,
             &mut self.scratch,
             &mut self.remembered,
-            &mut Unbounded,
+            &mut self.budget,
             offset,
         )?;
         match ended {
             Ended::With(found) => Ok(found),
-            Ended::TooManySteps => unreachable!(),
+            Ended::TooManySteps => match self.budget.over() {
+                Some(error) => Err(error),
+                None => unreachable!(),
+            },
         }
     }
 
     /// Runs the program from an offset. It answers where the run's answer ends, whose groups are then held.
-    fn run_at(&mut self, offset: usize) -> Result<Option<usize>, AllocError>
+    fn run_at(&mut self, offset: usize) -> Result<Option<usize>, B::Error>
         requires { IsAtPlace (reading_of (Input.view self.old.context.input)) offset }
         ensures answer { IfOk result (λ end. IsAnswer (program_in self.old) (input_of (Input.view self.old.context.input)) offset end (groups_in self.new)) }
+        ensures counted { IfOk result (λ _. CountsRun (program_in self.old) (Input.view self.old.context.input) offset (B.left (budget_of self.old)) (B.left (budget_of self.new))) }
+        ensures stopped { IfErr result (λ e. B.is_over e → (B.left (budget_of self.new) ≡ Some 0) × CountsRun (program_in self.old) (Input.view self.old.context.input) offset (B.left (budget_of self.old)) (B.left (budget_of self.new))) }
         ensures kept { self.new.context ≡ self.old.context }
     {
-        run_from(
+        let ended = run_from(
             &self.context,
             &mut self.scratch,
             &mut self.remembered,
+            &mut self.budget,
             offset,
-        )
+        )?;
+        match ended {
+            Ended::With(end) => Ok(end),
+            Ended::TooManySteps => match self.budget.over() {
+                Some(error) => Err(error),
+                None => unreachable!(),
+            },
+        }
     }
 
     /// The match at the least place from an offset on: that of the program's run from there, begun at the first instruction
@@ -132,11 +205,13 @@ impl<'r, Input: ExecutorInput> BacktrackExecutor<'r, Input> {
     /// ```rust
     /// let found = executor.find_from(0)?;
     /// ```
-    pub fn find_from(&mut self, offset: usize) -> Result<Option<Match>, AllocError>
+    pub fn find_from(&mut self, offset: usize) -> Result<Option<Match>, B::Error>
         requires { IsAtPlace (reading_of (Input.view self.old.context.input)) offset }
         ensures found { IfOk result (λ found. Finds (program_of self.old.context.program.now) (input_of (Input.view self.old.context.input)) offset (option_map item_of found)) }
         ensures inside { IfOk result (λ found. IfSome found (λ m. IsItemAtPlaces (reading_of (Input.view self.old.context.input)) (item_of m))) }
         ensures named { IfOk result (λ found. IfSome found (λ m. names_of_match m ≡ names_of self.old.context.program.now)) }
+        ensures counted { IfOk result (λ _. CountsSearch (program_in self.old) (Input.view self.old.context.input) offset (B.left (budget_of self.old)) (B.left (budget_of self.new))) }
+        ensures stopped { IfErr result (λ e. B.is_over e → (B.left (budget_of self.new) ≡ Some 0) × CountsSearch (program_in self.old) (Input.view self.old.context.input) offset (B.left (budget_of self.old)) (B.left (budget_of self.new))) }
         ensures kept { self.new.context ≡ self.old.context }
     {
         let Some((start, end)) = self.search(offset)? else {
@@ -163,10 +238,12 @@ impl<'r, Input: ExecutorInput> BacktrackExecutor<'r, Input> {
         &mut self,
         offset: usize,
         slots: &mut [Option<Range>],
-    ) -> Result<Option<Range>, AllocError>
+    ) -> Result<Option<Range>, B::Error>
         requires { IsAtPlace (reading_of (Input.view self.old.context.input)) offset }
         ensures found { IfOk result (λ found. IsWritten (Finds (program_of self.old.context.program.now) (input_of (Input.view self.old.context.input)) offset) (reading_of (Input.view self.old.context.input)) found slots.old slots.new) }
         ensures untouched { OnErr result (slots.new ≡ slots.old) }
+        ensures counted { IfOk result (λ _. CountsSearch (program_in self.old) (Input.view self.old.context.input) offset (B.left (budget_of self.old)) (B.left (budget_of self.new))) }
+        ensures stopped { IfErr result (λ e. B.is_over e → (B.left (budget_of self.new) ≡ Some 0) × CountsSearch (program_in self.old) (Input.view self.old.context.input) offset (B.left (budget_of self.old)) (B.left (budget_of self.new))) }
         ensures kept { self.new.context ≡ self.old.context }
     {
         let Some((start, end)) = self.search(offset)? else {
@@ -185,11 +262,13 @@ impl<'r, Input: ExecutorInput> BacktrackExecutor<'r, Input> {
     /// ```rust
     /// let found = executor.match_at(3)?;
     /// ```
-    pub fn match_at(&mut self, offset: usize) -> Result<Option<Match>, AllocError>
+    pub fn match_at(&mut self, offset: usize) -> Result<Option<Match>, B::Error>
         requires { IsAtPlace (reading_of (Input.view self.old.context.input)) offset }
         ensures outcome { IfOk result (λ found. IsOutcome (program_of self.old.context.program.now) (input_of (Input.view self.old.context.input)) offset (option_map item_of found)) }
         ensures inside { IfOk result (λ found. IfSome found (λ m. IsItemAtPlaces (reading_of (Input.view self.old.context.input)) (item_of m))) }
         ensures named { IfOk result (λ found. IfSome found (λ m. names_of_match m ≡ names_of self.old.context.program.now)) }
+        ensures counted { IfOk result (λ _. CountsRun (program_in self.old) (Input.view self.old.context.input) offset (B.left (budget_of self.old)) (B.left (budget_of self.new))) }
+        ensures stopped { IfErr result (λ e. B.is_over e → (B.left (budget_of self.new) ≡ Some 0) × CountsRun (program_in self.old) (Input.view self.old.context.input) offset (B.left (budget_of self.old)) (B.left (budget_of self.new))) }
         ensures kept { self.new.context ≡ self.old.context }
     {
         let Some(end) = self.run_at(offset)? else {
@@ -213,10 +292,12 @@ impl<'r, Input: ExecutorInput> BacktrackExecutor<'r, Input> {
         &mut self,
         offset: usize,
         slots: &mut [Option<Range>],
-    ) -> Result<Option<Range>, AllocError>
+    ) -> Result<Option<Range>, B::Error>
         requires { IsAtPlace (reading_of (Input.view self.old.context.input)) offset }
         ensures outcome { IfOk result (λ found. IsWritten (IsOutcome (program_of self.old.context.program.now) (input_of (Input.view self.old.context.input)) offset) (reading_of (Input.view self.old.context.input)) found slots.old slots.new) }
         ensures untouched { OnErr result (slots.new ≡ slots.old) }
+        ensures counted { IfOk result (λ _. CountsRun (program_in self.old) (Input.view self.old.context.input) offset (B.left (budget_of self.old)) (B.left (budget_of self.new))) }
+        ensures stopped { IfErr result (λ e. B.is_over e → (B.left (budget_of self.new) ≡ Some 0) × CountsRun (program_in self.old) (Input.view self.old.context.input) offset (B.left (budget_of self.old)) (B.left (budget_of self.new))) }
         ensures kept { self.new.context ≡ self.old.context }
     {
         let Some(end) = self.run_at(offset)? else {

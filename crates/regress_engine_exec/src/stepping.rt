@@ -1,15 +1,16 @@
-//! The matches of a program in a text, one after another, in so many steps.
+//! The matches of a program in a text, one after another.
 ghost use Rattle.std.specs.Prelude.{◌≡◌, ◌<◌, None, IfOk, IfSome, OnErr};
 ghost use Rattle.regress_match.specs.Iterating.{Finds, steps_on};
 ghost use Rattle.regress_engine_search.specs.Search.{items_from, places_behind, IsPosition, IsStart, StartsAt, IsMatchOf, Steps};
-ghost use Rattle.regress_engine_exec.specs.BoundedSearches.{search_in, steps_of, CountsFrom, CountsStep};
+ghost use Rattle.regress_engine_exec.specs.Counting.{CountsFrom, CountsStep};
+ghost use Rattle.regress_engine_exec.specs.Searches.{budget_of, search_in};
 
-use crate::bounded::BoundedExecutor;
-use crate::error::SearchError;
+use crate::budget::SearchBudget;
+use crate::search::Backtracker;
 use regress_engine_search::ExecutorInput;
 use regress_match::Match;
 
-impl<'r, Input: ExecutorInput> BoundedExecutor<'r, Input> {
+impl<'r, Input: ExecutorInput, B: SearchBudget> Backtracker<'r, Input, B> {
     /// The position at an offset: the offset itself; `None` for an offset past the end.
     ///
     /// Asks that the offset is that of a place of the text, or past the end.
@@ -25,10 +26,9 @@ impl<'r, Input: ExecutorInput> BoundedExecutor<'r, Input> {
         (offset <= self.context.text_len()).then_some(offset)
     }
 
-    /// One step of an iterator over the matches, as `BacktrackExecutor::step` makes it: the first match from a position on, which
-    /// becomes the offset to go on from behind the match ("RegExpBuiltinExec"). All steps together take no more steps of runs than
-    /// the executor may. Answers `None` where there is no match, and an error where memory is refused or too many steps would be
-    /// taken; after either there is no position, and from none there is no match.
+    /// One step of an iterator over the matches: the first match from a position on, which becomes the offset to go on from
+    /// behind the match ("RegExpBuiltinExec"). Answers `None` where there is no match, and an error where memory is refused or no
+    /// more steps may be counted; after either there is no position, and from none there is no match.
     ///
     /// Asks that the position is the offset of a place of the text, as `initial_position` and this give it.
     ///
@@ -38,13 +38,13 @@ impl<'r, Input: ExecutorInput> BoundedExecutor<'r, Input> {
     ///     let range = found?.range();
     /// }
     /// ```
-    pub fn step(&mut self, position: &mut Option<usize>) -> Option<Result<Match, SearchError>>
+    pub fn step(&mut self, position: &mut Option<usize>) -> Option<Result<Match, B::Error>>
         requires { IfSome position.old (IsPosition (search_in self.old)) }
         ensures kept { search_in self.new ≡ search_in self.old }
         ensures stepped { Steps (search_in self.old) position.old result position.new }
         ensures inside { IfSome position.new (IsPosition (search_in self.old)) }
         ensures nearer { IfSome result (λ _. steps_on (places_behind (search_in self.old)) position.new < steps_on (places_behind (search_in self.old)) position.old) }
-        ensures counted { CountsStep (search_in self.old) position.old result (steps_of self.old) (steps_of self.new) }
+        ensures counted { CountsStep B.is_over (search_in self.old) position.old result (B.left (budget_of self.old)) (B.left (budget_of self.new)) }
         ensures ended { position.old ≡ None → result ≡ None }
     {
         let from = position.take()?;
@@ -52,18 +52,18 @@ impl<'r, Input: ExecutorInput> BoundedExecutor<'r, Input> {
     }
 
     /// The first match from an offset on, and in `next` the offset to go on from.
-    fn advance(
+    pub(crate) fn advance(
         &mut self,
         position: usize,
         next: &mut Option<usize>,
-    ) -> Result<Option<Match>, SearchError>
+    ) -> Result<Option<Match>, B::Error>
         requires { IsPosition (search_in self.old) position }
         ensures kept { search_in self.new ≡ search_in self.old }
         ensures found { IfOk result (λ found. Finds (items_from (search_in self.old)) (IsMatchOf (search_in self.old)) position found next.new) }
         ensures inside { IfSome next.new (IsPosition (search_in self.old)) }
         ensures nearer { IfSome next.new (λ p. places_behind (search_in self.old) p < places_behind (search_in self.old) position) }
         ensures last { OnErr result (next.new ≡ None) }
-        ensures counted { CountsFrom (search_in self.old) position result (steps_of self.old) (steps_of self.new) }
+        ensures counted { CountsFrom B.is_over (search_in self.old) position result (B.left (budget_of self.old)) (B.left (budget_of self.new)) }
     {
         *next = None;
         let Some(found) = self.find_from(position)? else {

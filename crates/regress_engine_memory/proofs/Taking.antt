@@ -101,7 +101,7 @@ module _ (v : View) where
 
   module _ (program : Program) where
     -- an instruction that refers to no group takes at least what is told
-    advance-takes : (i : Instruction) (dir : Direction) (groups : List Marks) (o q : ℕ) → referred i ≡ None → advance program (input_of v) i dir groups o ≡ Some q
+    pub advance-takes : (i : Instruction) (dir : Direction) (groups : List Marks) (o q : ℕ) → referred i ≡ None → advance program (input_of v) i dir groups o ≡ Some q
         → Takes last_of dir (taken_by i) o q
     advance-takes (code.char c) dir groups o q calm e = passed-takes dir _ o q e
     advance-takes (code.char_set cs) dir groups o q calm e = passed-takes dir _ o q e
@@ -122,11 +122,11 @@ module _ (v : View) where
     advance-takes _ dir groups o q calm e = absurd (cc e)
 
 -- what takes one character refers to no group, and takes a unit
-taking-unreferring : (i : Instruction) → takes_character i ≡ true → referred i ≡ None
+pub taking-unreferring : (i : Instruction) → takes_character i ≡ true → referred i ≡ None
 taking-unreferring (code.back k icase) e = absurd (grind arith)
 taking-unreferring _ e = refl
 
-one-takes : (i : Instruction) → takes_character i ≡ true → 1 ≤ taken_by i
+pub one-takes : (i : Instruction) → takes_character i ≡ true → 1 ≤ taken_by i
 one-takes (code.char c) e = omega arith
 one-takes (code.char_set cs) e = omega arith
 one-takes (code.byte_set bs) e = omega arith
@@ -151,7 +151,7 @@ module _ (v : View) (all : AreOfKind v.kind v.units) (program : Program) (suits 
   one-on : (o q : ℕ) → advance program (input_of v) i dir groups o ≡ Some q → On 1 o q
   one-on o q e = takes-fewer (length v.units) dir (taken_by i) 1 o q (one-takes i takes) (advance-takes v program i dir groups o q (taking-unreferring i takes) e)
 
-  after-on : (n o q : ℕ) → IsBody program v at o → after_times program (input_of v) n i dir groups o ≡ Some q → On n o q × IsBody program v at q
+  pub after-on : (n o q : ℕ) → IsBody program v at o → after_times program (input_of v) n i dir groups o ≡ Some q → On n o q × IsBody program v at q
   unfolding after_times
   after-on zero o q body e = let same : o ≡ q = cc in (takes-none (length v.units) dir o q same, subst (IsBody program v at) same body)
   after-on (suc n) o q body e = by_value (advance program (input_of v) i dir groups o) refl e (after-on n)

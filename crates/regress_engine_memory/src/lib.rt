@@ -18,3 +18,4 @@ pub use laws::{
     failures_forget, known_failures_are_dropped, short_states_are_dropped,
     states_under_failures_fail, tables_are_tested, tried_states_are_recorded,
 };
+pub use needs::taken_by;

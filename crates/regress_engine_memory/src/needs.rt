@@ -18,7 +18,11 @@ pub struct Needs {
 }
 
 /// At least how many units an instruction takes, if it takes characters or bytes.
-fn taken_by(insn: &Insn) -> usize
+///
+/// ```rust
+/// let units = taken_by(insn);
+/// ```
+pub fn taken_by(insn: &Insn) -> usize
     ensures { result ≡ taken_by (instruction insn.now) }
 {
     match insn {

@@ -7,16 +7,43 @@ ghost use Rattle.regress_engine_code.specs.Standing.{program_of};
 ghost use Rattle.regress_engine_runs.specs.States.{Marks};
 ghost use Rattle.regress_engine_runs.specs.Runs.{after_times, as_far};
 ghost use Rattle.regress_engine_runs.specs.Closed.{Fits};
+ghost use Rattle.regress_engine_singles.specs.Passing.{scan_while};
 
+use crate::ascii::{ByteMatcher, passed_ahead};
 use crate::class::ScannedBracket;
 use crate::far::scan_while;
 use crate::stops::as_far_searched;
 use crate::unit_stops::as_far_among_units;
 use regress_engine_code::CompiledRegex;
-use regress_engine_input::{Direction, Forward};
+use regress_engine_input::{Direction, Forward, InputIndexer};
 use regress_engine_insn::Insn;
 use regress_engine_matchers::{CharInput, MatchAny, MatchAnyExceptLineTerminator, MatchByteSet};
 use regress_front_bytes::ascii_bitmap_holds_ascii;
+
+/// The offset behind as many characters ahead of one as pass a test one after another, at most so many. Those of ASCII are not
+/// decoded.
+#[inline]
+fn as_far_beside<Input: InputIndexer, Matcher: ByteMatcher<Input>>(
+    input: &Input,
+    matcher: &Matcher,
+    times: usize,
+    offset: usize,
+) -> usize
+    requires place { CanRead (Input.view input.now) offset }
+    requires suits { Matcher.Suits matcher.now (Input.view input.now) }
+    ensures { result ≡ scan_while (input_of (Input.view input.now)) (Matcher.passes matcher.now) ahead times offset }
+{
+    let mut behind = offset;
+    let mut left = times;
+    while left > 0 {
+        let Some(next) = passed_ahead(input, matcher, behind) else {
+            break;
+        };
+        behind = next;
+        left -= 1;
+    }
+    behind
+}
 
 /// The offset behind as many characters ahead of one as an instruction takes one after another, at most so many: one that is a
 /// class or takes any character, of others `None`.
@@ -41,7 +68,7 @@ pub fn as_far_ahead<Input: CharInput>(
         Insn::AsciiBracket(bitmap) => {
             ascii_bitmap_holds_ascii(bitmap);
             let set = MatchByteSet { bytes: bitmap };
-            Some(scan_while(input, Forward::new(), &set, times, offset))
+            Some(as_far_beside(input, &set, times, offset))
         }
         Insn::Bracket(index) => {
             let bc = &program.brackets()[*index];
@@ -51,8 +78,7 @@ pub fn as_far_ahead<Input: CharInput>(
             if let Some(far) = as_far_among_units(input, bc, times, offset) {
                 return Some(far);
             }
-            let class = ScannedBracket { bc };
-            Some(scan_while(input, Forward::new(), &class, times, offset))
+            Some(as_far_beside(input, &ScannedBracket { bc }, times, offset))
         }
         Insn::MatchAny => Some(scan_while(input, Forward::new(), &MatchAny::new(), times, offset)),
         Insn::MatchAnyExceptLineTerminator => {

@@ -136,6 +136,7 @@ fn ascii_ahead<Input: InputIndexer>(input: &Input, offset: usize) -> Option<(u8,
 }
 
 /// The offset behind the character ahead of one, where it passes. One of ASCII is not decoded.
+#[inline(always)]
 pub(crate) fn passed_ahead<Input: InputIndexer, Matcher: ByteMatcher<Input>>(
     input: &Input,
     matcher: &Matcher,

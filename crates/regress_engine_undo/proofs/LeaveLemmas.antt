@@ -97,6 +97,10 @@ pub nothing-outside : (program : Program) (input : Input) (dir : Direction) (h :
 unfolding stands_for
 nothing-outside program input dir h none = ap (λ (s : List Undo). outside_of (stands_for program input dir s h.loops h.groups)) none
 
+-- so the whole program is left
+pub leaves-empty : (p : Spot) (h : Held) → h.stack ≡ [] → EndsAt p h
+leaves-empty p h none = leaves-all p h h (λ program input dir. nothing-outside program input dir h none)
+
 -- one more group is carried
 pub carried : (j k : Held) (g first : ℕ) (new old : List Marks) (m : Marks) → k ≡ group_written g m j → j.groups ≡ mixed 0 first g new old → m ≡ get_or new g unset
     → first ≤ g → length new ≡ length old → g < length old → k.groups ≡ mixed 0 first (g + 1) new old

@@ -3,6 +3,7 @@ pub mod SoundLemmas
 pub mod LeadLemmas
 pub mod StepLemmas
 pub mod BackLemmas
+pub mod GoalLemmas
 pub mod LeaveLemmas
 pub mod DispatchLemmas
 pub mod SingleLemmas

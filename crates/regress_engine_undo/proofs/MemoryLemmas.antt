@@ -27,6 +27,15 @@ pub ok-then : {T E : Type 0} (r : Result T E) (P Q : T → Type 0) → ((x : T) 
 ok-then (Ok x) P Q f h = f x h
 ok-then (Err e) P Q f h = tt
 
+-- no records are held where there are none
+pub held-none : {A : Type 0} (f : A → Undo) (xs slice : List A) → slice ≡ xs → true ≡ (length slice == 0) → map f (reverse xs) ≡ []
+held-none f xs slice same e =
+    let empty : length slice ≡ 0 = grind (arith, nat_tests, e) in all-none (map f (reverse xs)) (length-map (reverse xs) f ∙ length-reverse xs ∙ ap length (sym same) ∙ empty)
+  where
+    all-none : (s : List Undo) → length s ≡ 0 → s ≡ []
+    all-none [] e = refl
+    all-none (v ∷ s) e = absurd (omega (arith, e))
+
 -- a record on no records, and on some
 module _ {A : Type 0} (f : A → Undo) (xs slice : List A) (same : slice ≡ xs) (u : Undo) where
   count : length (map f (reverse xs)) ≡ length slice

@@ -91,6 +91,9 @@ impl Memory {
         ensures leaves { IfOk result (λ left. Leaves spot.old (held self.old) left spot.new (held self.new)) }
         ensures sound { IfOk result (λ left. LeavesSound (held self.old) left (held self.new)) }
     {
+        if self.stack.as_slice().is_empty() {
+            return Ok(None);
+        }
         answer.clear();
         answer.extend_from_slice(&self.groups)?;
         let Some(frame) = self.unwind() else {

@@ -1,7 +1,7 @@
 -- What an executor writes to slots is what a tree's match list, or its outcome at a place, has first.
-use Rattle.std.specs.Prelude.{option_map, slice_get, IfSome, nat_le}
+use Rattle.std.specs.Prelude.{option_map, slice_get, IfErr, IfOk, IfSome, nat_le}
 use Rattle.std.specs.Bool.{then_some}
-use Rattle.std.proofs.Common.{◌≡◌, ℕ, zero, suc, ◌<◌, ◌≤◌, ◌⊎◌, inl, inr, Bool, List, [], ◌∷◌, map, Option, Some, None, All, length, refl, sym, ap, ◌∙◌, subst}
+use Rattle.std.proofs.Common.{◌≡◌, ℕ, zero, suc, ◌<◌, ◌≤◌, ◌⊎◌, inl, inr, Bool, List, [], ◌∷◌, map, Option, Some, None, Result, Ok, Err, All, length, refl, sym, ap, ◌∙◌, subst}
 use Rattle.std.proofs.lemmas.Bool.{cases_lt, le-leb, lt-leb}
 use Rattle.std.proofs.lemmas.List.Elements.{All-nil, All-cons, All-head, All-tail}
 use Rattle.std.specs.declared.ops.Range.{Range}
@@ -13,7 +13,8 @@ use Rattle.regress_front.specs.Trees.{Tree}
 use Rattle.regress_match.proofs.TakenLemmas.{of_groups}
 use Rattle.regress_match.specs.Iterating.{coming_on}
 use Rattle.regress_match.specs.Slots.{Fills, slots_of}
-use Rattle.regress_match.specs.Views.{ends}
+use Rattle.regress_match.specs.declared.found.Match.{Match}
+use Rattle.regress_match.specs.Views.{ends, item_of}
 use Rattle.regress_engine_input.specs.Views.{AreOfKind, input_of, reading_of}
 use Rattle.regress_engine_code.specs.Standing.{program_of, target_of}
 use Rattle.regress_engine_runs.specs.Items.{Finds, goes_on, begins_at}
@@ -126,3 +127,18 @@ module _ (s : Search) (all : AreOfKind s.view.kind s.view.units) (made : IsMadeO
   pub run-told : at ≤ length s.view.units → (i : Option Item) → IfSome i (IsItemAtPlaces reading) → IsOutcome (program_of s.compiled) (input_of s.view) at i
       → i ≡ first_told Yes s.compiled reading n t place
   run-told low i inside outcome = outcome-told s all made at place begins n t laid low i outcome
+
+-- what a run or a search results in is the item that it has to be
+pub told-by : {E : Type 0} (P : Item → Type 0) (IsResult : Option Item → Type 0) (j : Option Item) → ((i : Option Item) → IfSome i P → IsResult i → i ≡ j)
+    → (r : Result (Option Match) E) → IfOk r (λ found. IsResult (option_map item_of found)) → IfOk r (λ found. IfSome found (λ m. P (item_of m)))
+    → IfOk r (λ found. option_map item_of found ≡ j)
+told-by P IsResult j is (Ok None) result inside = is None tt result
+told-by P IsResult j is (Ok (Some m)) result inside = is (Some (item_of m)) inside result
+told-by P IsResult j is (Err e) result inside = tt
+
+-- where all steps were counted, the runs of a search take them all
+pub takes-all : {T E : Type 0} (r : Result T E) (IsOver : E → Type 0) (Counts : (at : ℕ) → Option ℕ → Type 0) (from at : ℕ) (after : Option ℕ) → from ≡ at
+    → IfErr r (λ e. IsOver e → (after ≡ Some 0) × Counts from after) → IfErr r (λ e. IsOver e → Counts at (Some 0))
+takes-all (Ok x) IsOver Counts from at after here stopped = tt
+takes-all (Err e) IsOver Counts from at after here stopped = λ over.
+    let (none, counts) = stopped over in subst (Counts at) none (subst (λ o. Counts o after) here counts)

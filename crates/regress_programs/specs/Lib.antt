@@ -2,6 +2,7 @@ pub mod Programs
 pub mod Refusing
 pub mod Outcomes
 pub mod Filling
+pub mod Counting
 pub mod SearchFor
 pub mod Positions
 pub mod Coming

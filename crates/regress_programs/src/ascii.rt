@@ -12,7 +12,7 @@ ghost use Rattle.regress_programs.specs.Positions.{IsPlaced, IsPlaced-prop};
 use crate::compiled::Compiled;
 use regress_engine::{AsciiInput, BacktrackExecutor};
 use regress_front::Error;
-use regress_match::{Match, MatchProducer};
+use regress_match::Match;
 use std::alloc::Global;
 use std::iter::FusedIterator;
 

@@ -5,7 +5,7 @@ mod ascii;
 mod compiled;
 mod laws;
 mod matches;
-mod outcomes;
+mod searching;
 mod slots;
 mod units;
 
@@ -13,6 +13,6 @@ pub use ascii::AsciiMatches;
 pub use compiled::Compiled;
 pub use laws::programs_of_trees_are_of_patterns;
 pub use matches::Matches;
-pub use outcomes::match_at;
-pub use slots::{Anchored, find_into};
+pub use searching::first_within;
+pub use slots::{Anchored, find_into, find_into_within};
 pub use units::{Ucs2Matches, Utf16Matches};

@@ -11,7 +11,7 @@ ghost use Rattle.regress_programs.specs.Positions.{IsPlaced, IsPlaced-prop};
 use crate::compiled::Compiled;
 use regress_engine::{BacktrackExecutor, Utf8Input};
 use regress_front::Error;
-use regress_match::{Match, MatchProducer};
+use regress_match::Match;
 use regress_matched::TextMatches;
 use std::alloc::Global;
 use std::iter::FusedIterator;

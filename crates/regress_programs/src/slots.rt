@@ -1,17 +1,19 @@
 //! Matches that are written to slots of the caller.
-ghost use Rattle.std.specs.Prelude.{◌≡◌, ℕ, IfOk, IfSome, OnErr};
+ghost use Rattle.std.specs.Prelude.{◌≡◌, ℕ, Some, IfErr, IfOk, IfSome, OnErr};
 ghost use Rattle.regress_meaning.specs.Offsets.{Begins};
 ghost use Rattle.regress_front.specs.Trees.{Tree};
 ghost use Rattle.regress_match.specs.Slots.{Fills};
 ghost use Rattle.regress_engine.specs.Search.{IsMadeOf};
+ghost use Rattle.regress_engine.specs.Searches.{budget_of};
 ghost use Rattle.regress_engine.specs.Standing.{target_of};
 ghost use Rattle.regress_engine.specs.Views.{reading_of};
 ghost use Rattle.regress_programs.specs.declared.slots.Anchored.TheVariants.{Yes};
+ghost use Rattle.regress_programs.specs.Counting.{Counts};
 ghost use Rattle.regress_programs.specs.Programs.{IsLaidOutFrom};
 ghost use Rattle.regress_programs.specs.Filling.{SlotsAreAtPlaces, first_told};
 
-use regress_engine::{BacktrackExecutor, CompiledRegex, ExecutorInput, Scratch};
-use regress_match::{MatchProducer, Range};
+use regress_engine::{Backtracker, CompiledRegex, ExecutorInput, Scratch, SearchBudget, Unbounded};
+use regress_match::Range;
 use std::alloc::{AllocError, Global};
 use std::mem;
 
@@ -25,12 +27,12 @@ pub enum Anchored {
 }
 
 /// The first match that an executor finds from an offset on, or the one that begins there, written to slots; none past the end.
-fn next_into<Input: ExecutorInput>(
-    executor: &mut BacktrackExecutor<'_, Input>,
+fn next_into<Input: ExecutorInput, B: SearchBudget>(
+    executor: &mut Backtracker<'_, Input, B>,
     anchored: Anchored,
     start: usize,
     slots: &mut [Option<Range>],
-) -> Result<Option<Range>, AllocError>
+) -> Result<Option<Range>, B::Error>
     requires made { IsMadeOf executor.old.context.program.now (Input.view executor.old.context.input) }
     requires start { (place : ℕ) × Begins (reading_of (Input.view executor.old.context.input)) start place }
     ensures of_tree { (n : ℕ) → (t : Tree) → IsLaidOutFrom (target_of executor.old.context.program.now) n t →
@@ -39,6 +41,8 @@ fn next_into<Input: ExecutorInput>(
     ensures begins { anchored ≡ Yes → IfOk result (λ found. IfSome found (λ r. r.start ≡ start)) }
     ensures inside { IfOk result (λ found. SlotsAreAtPlaces (reading_of (Input.view executor.old.context.input)) found slots.new) }
     ensures untouched { OnErr result (slots.new ≡ slots.old) }
+    ensures stopped { IfErr result (λ e. B.is_over e →
+        Counts anchored executor.old.context.program.now (Input.view executor.old.context.input) start (B.left (budget_of executor.old)) (Some 0)) }
 {
     let Some(position) = executor.initial_position(start) else {
         return Ok(None);
@@ -47,6 +51,43 @@ fn next_into<Input: ExecutorInput>(
         Anchored::No => executor.find_into(position, slots),
         Anchored::Yes => executor.match_into(position, slots),
     }
+}
+
+/// The first match of a program from an offset of an input on, or the one that begins there, within a budget of steps, written to
+/// slots; none past the input's end. The room that the search needs is that of the scratch.
+///
+/// Asks that the program is made for the input, and that a search may begin at the offset. Errs where memory is refused, and where
+/// the runs of the search take all steps of the budget or more; the slots then stay as they were.
+///
+/// ```rust
+/// let input = Utf8Input::new("aab", false, program.tables());
+/// let found = find_into_within(alloc, &mut scratch, &program, input, Anchored::No, 0, Unbounded, &mut slots)?;
+/// ```
+pub fn find_into_within<Input: ExecutorInput, B: SearchBudget>(
+    alloc: Global,
+    scratch: &mut Scratch,
+    program: &CompiledRegex,
+    input: Input,
+    anchored: Anchored,
+    start: usize,
+    budget: B,
+    slots: &mut [Option<Range>],
+) -> Result<Option<Range>, B::Error>
+    requires made { IsMadeOf program.now (Input.view input) }
+    requires start { (place : ℕ) × Begins (reading_of (Input.view input)) start place }
+    ensures of_tree { (n : ℕ) → (t : Tree) → IsLaidOutFrom (target_of program.now) n t →
+        (place : ℕ) → Begins (reading_of (Input.view input)) start place →
+        IfOk result (λ found. Fills (first_told anchored program.now (reading_of (Input.view input)) n t place) found slots.old slots.new) }
+    ensures begins { anchored ≡ Yes → IfOk result (λ found. IfSome found (λ r. r.start ≡ start)) }
+    ensures inside { IfOk result (λ found. SlotsAreAtPlaces (reading_of (Input.view input)) found slots.new) }
+    ensures untouched { OnErr result (slots.new ≡ slots.old) }
+    ensures stopped { IfErr result (λ e. B.is_over e → Counts anchored program.now (Input.view input) start (B.left budget) (Some 0)) }
+{
+    let lent = mem::replace(scratch, Scratch::new(alloc));
+    let mut executor = Backtracker::with_budget(alloc, program, input, lent, budget);
+    let found = next_into(&mut executor, anchored, start, slots);
+    *scratch = executor.into_scratch();
+    found
 }
 
 /// The first match of a program from an offset of an input on, or the one that begins there, written to slots; none past the
@@ -76,9 +117,7 @@ pub fn find_into<Input: ExecutorInput>(
     ensures inside { IfOk result (λ found. SlotsAreAtPlaces (reading_of (Input.view input)) found slots.new) }
     ensures untouched { OnErr result (slots.new ≡ slots.old) }
 {
-    let lent = mem::replace(scratch, Scratch::new(alloc));
-    let mut executor = BacktrackExecutor::with_scratch(alloc, program, input, lent);
-    let found = next_into(&mut executor, anchored, start, slots);
-    *scratch = executor.into_scratch();
-    found
+    find_into_within(
+        alloc, scratch, program, input, anchored, start, Unbounded, slots,
+    )
 }

@@ -10,17 +10,17 @@ invariant_of-attempt g c =
     let context = c.args.context.now in
     record { ends = context.searchable.ends c.args.offset (subst (λ x. IsAtPlace (reading_of x) c.args.offset) (sym (g.met.Input.ExecutorInput.shows context.input)) c.requires.place) }
 
-pub run-requires-clause-suits : goal.run-requires-clause-suits
-run-requires-clause-suits g c =
+pub run_within-requires-clause-suits : goal.run_within-requires-clause-suits
+run_within-requires-clause-suits g c =
     let context = c.args.context.now in
     let searchable = subst (IsSearchable (program_of context.program.now)) (g.met.Input.ExecutorInput.shows context.input) context.searchable in
     searchable.suits
 
-pub run-requires-clause-begun : goal.run-requires-clause-begun
-run-requires-clause-begun g c = λ h. inl refl
+pub run_within-requires-clause-begun : goal.run_within-requires-clause-begun
+run_within-requires-clause-begun g c = λ h. inl refl
 
-pub run-requires-clause-reads : goal.run-requires-clause-reads
-run-requires-clause-reads g c =
+pub run_within-requires-clause-reads : goal.run_within-requires-clause-reads
+run_within-requires-clause-reads g c =
     let context = c.args.context.now in
     let searchable = subst (IsSearchable (program_of context.program.now)) (g.met.Input.ExecutorInput.shows context.input) context.searchable in
     searchable.reads c.args.offset c.requires.place

@@ -16,7 +16,7 @@ returns-in-AsciiBracket g c = λ groups.
     let input = input_of (g.Input.InputIndexer.view c.args.input.now) in
     let has = ascii_bitmap_contains c.in-AsciiBracket.bitmap in
     rw c.in-AsciiBracket.is
-    (c.scan_while.ensures ∙ far-taken (program_of c.args.program.now) input has (code.ascii_bracket (members has)) ahead groups (λ o. by-members has c.ascii_bitmap_holds_ascii.ensures (input.next ahead o)) c.args.times c.args.offset)
+    (c.as_far_beside.ensures ∙ far-taken (program_of c.args.program.now) input has (code.ascii_bracket (members has)) ahead groups (λ o. by-members has c.ascii_bitmap_holds_ascii.ensures (input.next ahead o)) c.args.times c.args.offset)
 
 pub returns-in-Some : goal.returns-in-Some
 returns-in-Some g c = λ groups.
@@ -45,13 +45,13 @@ returns-in_default-as_far_among_units g c = λ groups.
     let here = rw c.brackets.ensures at c.index-brackets-index.is in
     let within = rw c.in-Bracket.is at c.requires.fits in
     rw c.in-Bracket.is
-    (c.scan_while-in-Bracket.ensures
+    (c.as_far_beside-in-Bracket.ensures
     ∙ far-taken (program_of c.args.program.now) input (bracket_has class.invert (ends_of class.cps.intervals.items)) (code.bracket c.in-Bracket.index) ahead groups (λ o. bracket_takes (input.next ahead o) _ _ _ within here) c.args.times c.args.offset)
 
 pub returns-in-MatchAny : goal.returns-in-MatchAny
 returns-in-MatchAny g c = λ groups.
     let input = input_of (g.Input.InputIndexer.view c.args.input.now) in
-    rw c.in-MatchAny.is (c.scan_while-in-MatchAny.ensures ∙ far-taken (program_of c.args.program.now) input (λ _. true) code.any ahead groups (λ o. refl) c.args.times c.args.offset)
+    rw c.in-MatchAny.is (c.scan_while.ensures ∙ far-taken (program_of c.args.program.now) input (λ _. true) code.any ahead groups (λ o. refl) c.args.times c.args.offset)
 
 pub returns-in-MatchAnyExceptLineTerminator : goal.returns-in-MatchAnyExceptLineTerminator
 returns-in-MatchAnyExceptLineTerminator g c = λ groups.

@@ -1,3 +1,4 @@
+use Rattle.std.specs.Prelude.{IfErr}
 use Rattle.std.proofs.Common.{◌≡◌, Some, None, IfOk, refl, sym, ap, ◌∙◌, subst}
 use Rattle.std.proofs.lemmas.Result.{IfOk-weaker}
 use Rattle.regress_match.specs.Slots.{Fills}
@@ -8,8 +9,10 @@ use Rattle.regress_engine_runs.specs.Meets.{IsAtPlace}
 use Rattle.regress_engine_search.specs.Answering.{IsOutcome}
 use Rattle.regress_engine_search.specs.Search.{Search, IsSearchable}
 use Rattle.regress_programs.specs.declared.slots.Anchored.TheVariants.{No, Yes}
+use Rattle.regress_engine.specs.Searches.{budget_of}
+use Rattle.regress_programs.specs.Counting.{Counts}
 use Rattle.regress_programs.specs.Filling.{first_told}
-use Rattle.regress_programs.proofs.SlotLemmas.{begun, found-told, run-told, told-past, written-as, written-places}
+use Rattle.regress_programs.proofs.SlotLemmas.{begun, found-told, run-told, takes-all, told-past, written-as, written-places}
 use Rattle.regress_programs.proofs.slots.next_into.Goals as goal
 
 pub returns-in_default-clause-of_tree : goal.returns-in_default-clause-of_tree
@@ -65,3 +68,27 @@ returns-in-Yes-clause-inside g c =
     IfOk-weaker c.match_into.result _ _
     (λ found written. written-places (reading_of (g.Input.InputIndexer.view c.args.executor.now.context.input)) found c.args.slots.now c.match_into.new.slots _ written)
     c.match_into.ensures.outcome
+
+pub returns-in-No-clause-stopped : goal.returns-in-No-clause-stopped
+returns-in-No-clause-stopped g c =
+    let context = c.args.executor.now.context in
+    let v = g.Input.InputIndexer.view context.input in
+    let shows = g.met.Input.ExecutorInput.shows context.input in
+    let s : Search = record { compiled = context.program.now; view = v; searchable = subst (IsSearchable (program_of context.program.now)) shows context.searchable } in
+    let starts = sym c.in-Some.is ∙ c.initial_position.ensures.begins ∙ ap (λ w. begins_at (input_of w) c.args.start) shows in
+    let here = (begun s (g.met.Input.InputIndexer.are_of_kind context.input) c.args.start c.in-Some.position starts).0 in
+    let before = g.B.Budget.left (budget_of c.args.executor.now) in
+    subst (λ a. IfErr c.find_into.result (λ e. g.B.SearchBudget.is_over e → Counts a s.compiled v c.args.start before (Some 0))) (sym c.in-No.is)
+    (takes-all c.find_into.result g.B.SearchBudget.is_over (λ at after. Counts No s.compiled v at before after) c.in-Some.position c.args.start _ here c.find_into.ensures.stopped)
+
+pub returns-in-Yes-clause-stopped : goal.returns-in-Yes-clause-stopped
+returns-in-Yes-clause-stopped g c =
+    let context = c.args.executor.now.context in
+    let v = g.Input.InputIndexer.view context.input in
+    let shows = g.met.Input.ExecutorInput.shows context.input in
+    let s : Search = record { compiled = context.program.now; view = v; searchable = subst (IsSearchable (program_of context.program.now)) shows context.searchable } in
+    let starts = sym c.in-Some.is ∙ c.initial_position.ensures.begins ∙ ap (λ w. begins_at (input_of w) c.args.start) shows in
+    let here = (begun s (g.met.Input.InputIndexer.are_of_kind context.input) c.args.start c.in-Some.position starts).0 in
+    let before = g.B.Budget.left (budget_of c.args.executor.now) in
+    subst (λ a. IfErr c.match_into.result (λ e. g.B.SearchBudget.is_over e → Counts a s.compiled v c.args.start before (Some 0))) (sym c.in-Yes.is)
+    (takes-all c.match_into.result g.B.SearchBudget.is_over (λ at after. Counts Yes s.compiled v at before after) c.in-Some.position c.args.start _ here c.match_into.ensures.stopped)

@@ -20,3 +20,6 @@ returns-clause-found c = λ t o p stands place begins.
 pub returns-clause-inside : goal.returns-clause-inside
 returns-clause-inside c =
     lies-in_text utf8 c.args.text.now refl c.utf8.text c.in_ok-found.found (inside-shown _ _ c.new-input.ensures c.in_ok-found.found c.in_ok-found.ensures.inside)
+
+pub returns-clause-begins : goal.returns-clause-begins
+returns-clause-begins c = c.in_ok-found.ensures.begins refl

@@ -12,8 +12,8 @@ use Rattle.regress.proofs.ToldLemmas.{told-shown, inside-shown, lies-in_text, st
 use Rattle.regress.proofs.UnitLemmas.{begins-anywhere}
 use Rattle.regress.proofs.api.Regex.match_at_ascii.Goals as goal
 
-pub match_at-requires-clause-start : goal.match_at-requires-clause-start
-match_at-requires-clause-start c = subst (λ (x : View). (place : ℕ) × Begins (reading_of x) c.args.start place) (sym c.new-input.ensures) (begins-anywhere c.args.text.now c.args.start)
+pub first_within-requires-clause-start : goal.first_within-requires-clause-start
+first_within-requires-clause-start c = subst (λ (x : View). (place : ℕ) × Begins (reading_of x) c.args.start place) (sym c.new-input.ensures) (begins-anywhere c.args.text.now c.args.start)
 
 pub returns-clause-found_of_tree : goal.returns-clause-found_of_tree
 returns-clause-found_of_tree c = λ n t laid place begins.
@@ -36,3 +36,6 @@ returns-clause-inside c =
 
 pub returns-clause-starts : goal.returns-clause-starts
 returns-clause-starts c = starts-in_text c.args.text.now c.utf8.text c.in_ok-found.found (returns-clause-inside c)
+
+pub returns-clause-begins : goal.returns-clause-begins
+returns-clause-begins c = c.in_ok-found.ensures.begins refl

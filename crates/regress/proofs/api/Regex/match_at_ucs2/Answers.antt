@@ -1,4 +1,4 @@
-use Rattle.std.proofs.Common.{ℕ, ◌<◌, All, length, arith, sym, subst}
+use Rattle.std.proofs.Common.{ℕ, ◌<◌, All, length, arith, sym, subst, refl}
 use Rattle.std.proofs.lemmas.List.{get_or_default}
 use Rattle.regress_meaning.specs.Offsets.{Begins, of_ucs2}
 use Rattle.regress_meaning.specs.Pattern.{names_of}
@@ -11,8 +11,8 @@ use Rattle.regress.proofs.ToldLemmas.{told-shown, inside-shown, lies-in_units}
 use Rattle.regress.proofs.UnitLemmas.{begins-anywhere}
 use Rattle.regress.proofs.api.Regex.match_at_ucs2.Goals as goal
 
-pub match_at-requires-clause-start : goal.match_at-requires-clause-start
-match_at-requires-clause-start c = subst (λ (x : View). (place : ℕ) × Begins (reading_of x) c.args.start place) (sym c.new-input.ensures) (begins-anywhere c.args.units.now c.args.start)
+pub first_within-requires-clause-start : goal.first_within-requires-clause-start
+first_within-requires-clause-start c = subst (λ (x : View). (place : ℕ) × Begins (reading_of x) c.args.start place) (sym c.new-input.ensures) (begins-anywhere c.args.units.now c.args.start)
 
 pub returns-clause-found_of_tree : goal.returns-clause-found_of_tree
 returns-clause-found_of_tree c = λ n t laid.
@@ -30,3 +30,6 @@ pub returns-clause-inside : goal.returns-clause-inside
 returns-clause-inside c =
     let units = c.args.units.now in
     lies-in_units (of_ucs2 units) units (single_offset units (length units) (omega arith)) c.in_ok-found.found (inside-shown _ _ c.new-input.ensures c.in_ok-found.found c.in_ok-found.ensures.inside)
+
+pub returns-clause-begins : goal.returns-clause-begins
+returns-clause-begins c = c.in_ok-found.ensures.begins refl

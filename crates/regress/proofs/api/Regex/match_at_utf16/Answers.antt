@@ -1,4 +1,4 @@
-use Rattle.std.proofs.Common.{◌<◌, All, length, arith}
+use Rattle.std.proofs.Common.{◌<◌, All, length, arith, refl}
 use Rattle.std.proofs.lemmas.List.{get_or_default}
 use Rattle.regress_meaning.specs.Offsets.{of_utf16}
 use Rattle.regress_meaning.specs.Pattern.{names_of}
@@ -27,3 +27,6 @@ returns-clause-inside c =
     let units = c.args.units.now in
     let short : All (λ u. u < 0x1_0000) units = λ k d room. let same = get_or_default units k d 0 room in let fits = c.type_inv.units k in omega (arith, same, fits) in
     lies-in_units (of_utf16 units) units (utf16_end units short) c.in_ok-found.found (inside-shown _ _ c.new-input.ensures c.in_ok-found.found c.in_ok-found.ensures.inside)
+
+pub returns-clause-begins : goal.returns-clause-begins
+returns-clause-begins c = c.in_ok-found.ensures.begins refl

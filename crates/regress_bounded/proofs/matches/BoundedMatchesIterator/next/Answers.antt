@@ -2,7 +2,7 @@ use Rattle.std.proofs.Common.{◌≡◌, ◌<◌, Option, Some, None, IfSome, Re
 use Rattle.std.specs.Prelude.{OnSome, IfNone}
 use Rattle.regress_match.specs.declared.found.Match.{Match}
 use Rattle.regress_match.specs.Iterating.{steps_on}
-use Rattle.regress_engine_exec.specs.BoundedSearches.{search_in}
+use Rattle.regress_engine_exec.specs.Searches.{search_in}
 use Rattle.regress_engine_search.specs.Search.{Search, IsPosition, places_behind}
 use Rattle.regress_bounded.specs.Coming.{search_by}
 use Rattle.regress_bounded.proofs.StepLemmas.{step-given, step-ends, step-nearer}

@@ -8,10 +8,12 @@ use Rattle.regress_engine_input.specs.Views.{direction_of, input_of}
 use Rattle.regress_engine_runs.specs.Runs.{after_times, as_far}
 use Rattle.regress_engine_runs.specs.UndoStack.{give_back, take_on}
 use Rattle.regress_engine_search.specs.StateViews.{marks_of}
+use Rattle.regress_engine_search.proofs.PlaceLemmas.{moves}
 use Rattle.regress_engine_search.proofs.ReadyLemmas.{body-at}
 use Rattle.regress_engine_search.proofs.TaskLemmas.{leads-then}
 use Rattle.regress_engine_undo.specs.Held.{held, pushed}
 use Rattle.regress_engine_undo.proofs.BackLemmas.{give_back-held, take_on-held}
+use Rattle.regress_engine_undo.proofs.GoalLemmas.{give_back-goal}
 use Rattle.regress_engine_undo.proofs.SingleLemmas.{repeat-few, repeat-greedy, repeat-lazy, atomic}
 use Rattle.regress_engine_search.proofs.SkipLemmas.{place-lies}
 use Rattle.regress_engine_attempt.proofs.attempt.Attempt.repeat.Goals as goal
@@ -87,6 +89,30 @@ returns-then-is_possessive-clause-leads g c =
 
 pub returns-then-is_possessive-clause-counted : goal.returns-then-is_possessive-clause-counted
 returns-then-is_possessive-clause-counted g c =
+    let v = g.Input.InputIndexer.view c.args.self.now.input in
+    let all = g.met.Input.InputIndexer.are_of_kind c.args.self.now.input in
+    let most = c.pass-then-greedy.ensures.most (length v.units) (place-lies v all c.args.spot.now.offset c.requires.body.3) (place-lies v all c.as_far-far.result c.as_far-far.ensures.place) in
+    omega (arith, most)
+
+pub returns-then-is_goal-clause-leads : goal.returns-then-is_goal-clause-leads
+returns-then-is_goal-clause-leads g c =
+    let program = program_of c.args.self.now.program.now in
+    let v = g.Input.InputIndexer.view c.args.self.now.input in
+    let input = input_of v in
+    let i = instruction c.instruction-insn.result.now in
+    let p = c.args.spot.now in
+    let h = held c.args.memory.now in
+    let near = c.in-Some.near in
+    let far = c.as_far-far.result in
+    leads-then program input 0 0
+    (repeat-greedy program input i p h c.instruction-insn.ensures.stands c.args.least c.args.most c.args.greedy (pushed (give_back (p.at + 2) near far) h) near far c.if-greedy.true
+    (ap (λ gs. after_times program input c.args.least i (direction_of p.forward) (map marks_of gs) p.offset) (sym c.deref.ensures.value) ∙ sym c.in-Some.ensures.behind)
+    (c.as_far-far.ensures.far ∙ ap (λ gs. as_far program input (c.args.most - c.args.least) i (direction_of p.forward) (map marks_of gs) near) c.deref-then-greedy.ensures.value)
+    refl)
+    (give_back-goal program input p h (p.at + 2) near far (moves v) (c.is_goal.ensures c.if-is_goal.true))
+
+pub returns-then-is_goal-clause-counted : goal.returns-then-is_goal-clause-counted
+returns-then-is_goal-clause-counted g c =
     let v = g.Input.InputIndexer.view c.args.self.now.input in
     let all = g.met.Input.InputIndexer.are_of_kind c.args.self.now.input in
     let most = c.pass-then-greedy.ensures.most (length v.units) (place-lies v all c.args.spot.now.offset c.requires.body.3) (place-lies v all c.as_far-far.result c.as_far-far.ensures.place) in

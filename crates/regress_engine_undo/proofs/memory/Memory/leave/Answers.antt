@@ -1,9 +1,14 @@
 use Rattle.std.proofs.Common.{◌≡◌, ◌++◌, map, ap, ap₂, ◌∙◌, refl, sym}
 use Rattle.regress_engine_runs.specs.States.{mixed}
 use Rattle.regress_engine_search.specs.StateViews.{marks_of}
-use Rattle.regress_engine_undo.specs.Held.{held, frame_of}
-use Rattle.regress_engine_undo.proofs.LeaveLemmas.{leaves-all, leaves-negated, leaves-positive}
+use Rattle.regress_engine_undo.specs.Held.{held, frame_of, undo_of}
+use Rattle.regress_engine_undo.proofs.MemoryLemmas.{held-none}
+use Rattle.regress_engine_undo.proofs.LeaveLemmas.{leaves-all, leaves-empty, leaves-negated, leaves-positive}
 use Rattle.regress_engine_undo.proofs.memory.Memory.leave.Goals as goal
+
+pub returns-then-is_empty-clause-leaves : goal.returns-then-is_empty-clause-leaves
+returns-then-is_empty-clause-leaves c =
+    (refl, refl, leaves-empty c.args.spot.now (held c.args.self.now) (held-none undo_of c.args.self.now.stack.items c.as_slice.result.now c.as_slice.ensures.value c.if-is_empty.ensures))
 
 pub returns-then-is_negated-clause-leaves : goal.returns-then-is_negated-clause-leaves
 returns-then-is_negated-clause-leaves c =

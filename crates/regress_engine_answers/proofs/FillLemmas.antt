@@ -1,0 +1,395 @@
+-- How a table of answers is filled: what is worked out of an address and an offset is so, and the rest stays so.
+use Rattle.std.specs.Prelude.{not, slice_get}
+use Rattle.std.specs.List.{AllByRecursion}
+use Rattle.std.proofs.Common.{◌≡◌, ℕ, zero, suc, ◌+◌, ◌-◌, ◌^◌, ◌<◌, ◌≤◌, ◌⊎◌, ◌&&◌, ◌||◌, ◌==◌, inl, inr, Bool, true, false, if◌then◌else◌, List, [], ◌∷◌, length, Option, None, Some, refl, sym, ap, ap₂, ◌∙◌, subst, arith}
+use Rattle.std.proofs.lemmas.Bool.{cases_eq, eq-eqb, eqb-true}
+use Rattle.std.proofs.lemmas.Option.{slice_get_within}
+use Rattle.regress_meaning.specs.Meaning.{Direction, Forward, Backward}
+use Rattle.regress_engine_input.specs.Views.{View, AreOfKind, direction_of, input_of, reading_of}
+use Rattle.regress_front_nodes.specs.Trees.{Submatch, lookaround, atomic}
+use Rattle.regress_front_nodes.specs.TreeMeaning.{submatch_direction}
+use Rattle.regress_engine_insn.specs.Instructions.{LoopFields, Instruction, Program, Stands}
+use Rattle.regress_engine_insn.specs.Instructions as code
+use Rattle.regress_engine_runs.specs.Closed.{takes_character}
+use Rattle.regress_engine_runs.specs.States.{Marks, Whole}
+use Rattle.regress_engine_runs.specs.Runs.{Run, advance, finds, is_plain, one_by_one, room, successors}
+use Rattle.regress_engine_runs.specs.Meets.{now, referred, reads_character, IsAtPlace, ReadsPlaces}
+use Rattle.regress_engine_runs.specs.UndoStack.{whole}
+use Rattle.regress_engine_runs.proofs.RunViews.{one_stands}
+use Rattle.regress_engine_search.specs.Ready.{IsBody}
+use Rattle.regress_engine_search.specs.Search.{Suits}
+use Rattle.regress_engine_search.proofs.ReadyLemmas.{body-next}
+use Rattle.regress_engine_search.proofs.SkipLemmas.{place-lies}
+use Rattle.regress_engine_memory.specs.Flow.{Flow}
+use Rattle.regress_engine_memory.specs.Needs.{taken_by}
+use Rattle.regress_engine_memory.specs.Under.{IsFurther}
+use Rattle.regress_engine_memory.proofs.Onward.{flows-unreferring, room-less}
+use Rattle.regress_engine_memory.proofs.Taking.{advance-takes, one-takes, taking-unreferring}
+use Rattle.regress_engine_linear.specs.Answered.{AreExitsRight, IsAnswered, answer_at, exits_at, exits_value_at, one_at, one_beyond}
+use Rattle.regress_engine_answers.specs.AnswerTables.{exits_by, told_by}
+use Rattle.regress_engine_answers.specs.Filled.{IsExitRight, IsFilled, IsPast, IsRight, way_of}
+use Rattle.regress_engine_linear.specs.Linear.{IsDue, IsLinear}
+use Rattle.regress_engine_linear.specs.Ranks.{Ranking, AreRunning, AreUnbounded, Inside, IsBeyond, Ranks}
+use Rattle.regress_engine_linear.specs.RankTables.{Heights, forward_at, rank_at, ranking_of}
+use Rattle.regress_engine_answers.specs.declared.answers.Answers.{Answers}
+use Rattle.regress_engine_linear.proofs.AnswerLemmas.{answers-by, look-answers}
+use Rattle.regress_engine_linear.proofs.Beyond.{leads-beyond}
+use Rattle.regress_engine_answers.proofs.ExitAnswers.{exits-told}
+use Rattle.regress_engine_linear.proofs.Formulas.{answers-are, or-none}
+use Rattle.regress_engine_linear.proofs.Within.{each-lies}
+use Rattle.regress_engine_answers.proofs.WorkLemmas.{exits-value-is, reads-there}
+
+-- a bit is as it was, but at one address and offset
+pub bit-elsewhere : (at o b q : ℕ) (old value : Bool) → (b ≡ at → q ≡ o → ⊥) → (old || (((b == at) && (o == q)) && value)) ≡ old
+bit-elsewhere at o b q old value other = by_value (b == at) (o == q) refl refl
+  where
+    by_value : (x y : Bool) → (b == at) ≡ x → (o == q) ≡ y → (old || ((x && y) && value)) ≡ old
+    by_value true true e f = absurd (other (eqb-true b at e) (sym (eqb-true o q f)))
+    by_value true false e f = or-none old
+    by_value false y e f = or-none old
+
+-- there it is what was worked out
+pub bit-here : (at o : ℕ) (old value : Bool) → old ≡ false → (old || (((at == at) && (o == o)) && value)) ≡ value
+bit-here at o old value fresh =
+    ap (λ b. b || (((at == at) && (o == o)) && value)) fresh ∙ ap₂ (λ x y. (x && y) && value) (eq-eqb at at refl) (eq-eqb o o refl)
+
+room-end : (last : ℕ) (d : Direction) (o : ℕ) → o ≤ last → room last d o ≤ last
+room-end last Forward o low = omega arith
+room-end last Backward o low = omega (arith, low)
+
+module _ (flow : Flow) (h : Heights) (v : View) (all : AreOfKind v.kind v.units) (program : Program) (suits : Suits program v) (linear : IsLinear flow h program)
+    (short : suc (length v.units) < 2 ^ 64 - 1) where
+  abbrev last : ℕ
+  last = length v.units
+
+  abbrev r : Ranking
+  r = ranking_of h
+
+  pub unbounded : AreUnbounded last program
+  unbounded at f here = let most = linear.unbounded at f here in omega (arith, most, short)
+
+  pub stands-within : (at : ℕ) (i : Instruction) → Stands program at i → at < length program.instructions
+  stands-within at i here = slice_get_within program.instructions at i here
+
+  pub calm-there : (at : ℕ) (i : Instruction) → Stands program at i → flow.calm at ≡ true
+  calm-there at i here = linear.calm at (stands-within at i here)
+
+  pub unreferring-there : (at : ℕ) (i : Instruction) → Stands program at i → referred i ≡ None
+  unreferring-there at i here = flows-unreferring flow program at i (linear.flows at i (calm-there at i here) here)
+
+  -- ---- where nothing is worked out
+
+  past-later : (forward : Bool) (k o b q : ℕ) → IsPast flow h program v forward k o b q → IsPast flow h program v forward (suc k) o b q
+  past-later forward k o b q (inl less) = inl less
+  past-later forward k o b q (inr (same, less)) = inr (same, omega (arith, less))
+
+  -- of a rank of which nothing is due, or what is due is told of
+  pub skipped : (a : Answers) (forward : Bool) (k o : ℕ) → IsFilled flow h program v a forward k o
+      → ((b : ℕ) → IsDue h forward k b → IsRight flow h program v a b o × IsExitRight flow h program v a b o) → IsFilled flow h program v a forward (suc k) o
+  skipped a forward k o filled due = record {
+    right = λ b q within way inside past. right b q within way inside past;
+    fresh = λ b q way inside unpast. filled.fresh b q way inside (λ past. unpast (past-later forward k o b q past));
+    later = filled.later;
+    other = filled.other;
+  }
+    where
+      right : (b q : ℕ) → b < length h.ranks → forward_at h b ≡ forward → q ≤ last → IsPast flow h program v forward (suc k) o b q
+          → IsRight flow h program v a b q × IsExitRight flow h program v a b q
+      right b q within way inside (inl less) = filled.right b q within way inside (inl less)
+      right b q within way inside (inr (same, less)) = by_rank (cases_eq (rank_at h b) k)
+        where
+          by_rank : (rank_at h b ≡ k) ⊎ (rank_at h b ≡ k → ⊥) → IsRight flow h program v a b q × IsExitRight flow h program v a b q
+          by_rank (inl e) = subst (λ x. IsRight flow h program v a b x × IsExitRight flow h program v a b x) (sym same) (due b (within, way, e))
+          by_rank (inr other) = filled.right b q within way inside (inr (same, below (rank_at h b) k less other))
+            where
+              below : (x y : ℕ) → x < suc y → (x ≡ y → ⊥) → x < y
+              below x y less' other' = elim (cases_eq x y) [ inl e ↦ absurd (other' e) | inr e ↦ omega (arith, less', e) ]
+
+  -- what reads characters elsewhere than at a place is never come to
+  pub never-come : (a : Answers) (b o : ℕ) (i : Instruction) → Stands program b i → reads_character i ≡ true → (IsAtPlace (reading_of v) o → ⊥)
+      → IsRight flow h program v a b o × IsExitRight flow h program v a b o
+  never-come a b o i here reads elsewhere = (
+    λ loops groups running along. absurd (elsewhere (along (whole b o loops groups) i now here reads).0),
+    λ least most greedy body there stands place. absurd (elsewhere place),
+  )
+
+  -- one address has a rank
+  pub one-due : (k at b : ℕ) → slice_get h.order k ≡ Some at → b < length h.ranks → rank_at h b ≡ k → b ≡ at
+  one-due k at b here within rank =
+      let placed = linear.placed b (subst (λ n. b < n) linear.count within) in
+      let e : Some b ≡ Some at = sym placed ∙ ap (slice_get h.order) rank ∙ here in
+      cc
+
+  -- ---- from one offset to the next
+
+  rank-within : (b : ℕ) → b < length h.ranks → rank_at h b < length h.order
+  rank-within b within = slice_get_within h.order (rank_at h b) b (linear.placed b (subst (λ n. b < n) linear.count within))
+
+  room-one : (forward : Bool) (o q : ℕ) → o ≤ last → q ≤ last → room last (direction_of forward) o ≡ room last (direction_of forward) q → o ≡ q
+  room-one true o q low low' e = omega (arith, low, low', e)
+  room-one false o q low low' e = e
+
+  pub next-offset : (a : Answers) (forward : Bool) (o q : ℕ) → o ≤ last → room last (direction_of forward) q ≡ suc (room last (direction_of forward) o)
+      → IsFilled flow h program v a forward (length h.order) o → IsFilled flow h program v a forward 0 q
+  next-offset a forward o q low next filled = record {
+    right = λ b p within way inside past. filled.right b p within way inside (back b p within inside past);
+    fresh = λ b p way inside unpast. filled.fresh b p way inside (λ past. unpast (on b p past));
+    later = filled.later;
+    other = filled.other;
+  }
+    where
+      back : (b p : ℕ) → b < length h.ranks → p ≤ last → IsPast flow h program v forward 0 q b p → IsPast flow h program v forward (length h.order) o b p
+      back b p within inside (inr (same, less)) = absurd (omega (arith, less))
+      back b p within inside (inl less) = elim (cases_eq (room last (direction_of forward) p) (room last (direction_of forward) o)) [
+        | inl e ↦ inr (room-one forward p o inside low e, rank-within b within)
+        | inr other ↦ inl (omega (arith, less, next, other))
+      ]
+
+      on : (b p : ℕ) → IsPast flow h program v forward (length h.order) o b p → IsPast flow h program v forward 0 q b p
+      on b p (inl less) = inl (omega (arith, less, next))
+      on b p (inr (same, less)) = let e = ap (room last (direction_of forward)) same in inl (omega (arith, e, next))
+
+  -- where the last offset is done all is
+  pub all-right : (a : Answers) (forward : Bool) (o : ℕ) → o ≤ last → room last (direction_of forward) o ≡ last → IsFilled flow h program v a forward (length h.order) o
+      → (b q : ℕ) → b < length h.ranks → forward_at h b ≡ forward → q ≤ last → IsRight flow h program v a b q × IsExitRight flow h program v a b q
+  all-right a forward o low whole filled b q within way inside = filled.right b q within way inside past
+    where
+      past : IsPast flow h program v forward (length h.order) o b q
+      past = elim (cases_eq (room last (direction_of forward) q) (room last (direction_of forward) o)) [
+        | inl e ↦ inr (room-one forward q o inside low e, rank-within b within)
+        | inr other ↦ inl (let most = room-end last (direction_of forward) q inside in omega (arith, most, whole, other))
+      ]
+
+  module _ (a : Answers) (forward : Bool) (k o : ℕ) (filled : IsFilled flow h program v a forward k o) (at : ℕ) (rank : rank_at h at ≡ k) (way : forward_at h at ≡ forward) (lies : o ≤ last) where
+    abbrev dir : Direction
+    dir = direction_of forward
+
+    abbrev told : ℕ → ℕ → Bool
+    told = told_by a
+
+    abbrev Told : Whole → Type 0
+    Told u = IsAnswered flow r program v dir u.at u.offset (told u.at u.offset)
+
+    -- what is ranked lower, or further on, is told of
+    to-right : (b q : ℕ) → b < length h.ranks → forward_at h b ≡ forward → q ≤ last → (IsFurther last dir o q ⊎ ((q ≡ o) × (rank_at h b < rank_at h at)))
+        → IsAnswered flow r program v dir b q (told b q)
+    to-right b q within way' inside beyond =
+        subst (λ d. IsAnswered flow r program v (direction_of d) b q (told b q)) way' (filled.right b q within way' inside (past beyond)).0
+      where
+        past : IsFurther last dir o q ⊎ ((q ≡ o) × (rank_at h b < rank_at h at)) → IsPast flow h program v forward k o b q
+        past (inl further) = inl (room-less last dir o q further)
+        past (inr (same, less)) = inr (same, omega (arith, less, rank))
+
+    each-told : (loops : List (ℕ × ℕ)) (groups : List Marks) (us : List Whole)
+        → AllByRecursion (λ u. IsBeyond r last dir (whole at o loops groups) u × (u.at < length h.ranks) × (forward_at h u.at ≡ forward_at h at)) us
+        → AllByRecursion (λ u. u.offset ≤ last) us → AllByRecursion Told us
+    each-told loops groups [] on inside = tt
+    each-told loops groups (u ∷ us) on inside =
+        (to-right u.at u.offset on.0.1 (on.0.2 ∙ way) inside.0 on.0.0, each-told loops groups us on.1 inside.1)
+
+    plain-right : (i : Instruction) → Stands program at i → is_plain i ≡ true → (reads_character i ≡ true → IsAtPlace (reading_of v) o)
+        → IsAnswered flow r program v dir at o (answer_at told program (input_of v) dir i at o)
+    plain-right i here plain reads =
+        answers-by flow r v all program suits linear.flows linear.ranked dir told at o i (answer_at told program (input_of v) dir i at o) here plain (λ loops groups running.
+        let s : Whole = whole at o loops groups in (
+          each-told loops groups (successors program (input_of v) i dir s)
+              (leads-beyond flow r v all program suits linear.flows linear.ranked dir s i (calm-there at i here) here plain (λ is. reads-there v i s (unreferring-there at i here) (reads is)))
+              (each-lies v all program suits dir i s (unreferring-there at i here) here plain lies reads),
+          answers-are flow r last program (input_of v) linear.flows linear.ranked unbounded dir told i at o loops groups here plain running
+              (λ f e. (suits.closed at (code.enter_loop f) (subst (Stands program at) e here)).0),
+        ))
+
+    -- contents of a lookaround
+    inside-right : (kind : Submatch) → Inside r kind at → IsAnswered flow r program v (submatch_direction kind dir) (suc at) o (told (suc at) o)
+    inside-right kind inside = by_rank inside.rank
+      where
+        turn : direction_of (forward_at h (suc at)) ≡ submatch_direction kind dir
+        turn = inside.way ∙ ap (λ d. submatch_direction kind (direction_of d)) way
+
+        by_rank : ((forward_at h (suc at) ≡ forward_at h at) × (rank_at h (suc at) < rank_at h at)) ⊎ ((forward_at h at ≡ true) × (forward_at h (suc at) ≡ false))
+            → IsAnswered flow r program v (submatch_direction kind dir) (suc at) o (told (suc at) o)
+        by_rank (inl (same, less)) =
+            let way' : forward_at h (suc at) ≡ forward = same ∙ way in
+            let turned : dir ≡ submatch_direction kind dir = sym (ap direction_of way') ∙ turn in
+            subst (λ d. IsAnswered flow r program v d (suc at) o (told (suc at) o)) turned (to-right (suc at) o inside.within way' lies (inr (refl, less)))
+        by_rank (inr (onward, back)) =
+            subst (λ d. IsAnswered flow r program v d (suc at) o (told (suc at) o)) turn (filled.other (sym way ∙ onward) (suc at) o inside.within back lies)
+
+    -- What is worked out is so.
+    pub value-right : (i : Instruction) → Stands program at i → (reads_character i ≡ true → IsAtPlace (reading_of v) o)
+        → IsAnswered flow r program v dir at o (answer_at told program (input_of v) dir i at o)
+    value-right code.goal here reads = λ loops groups running along. (1, Some (whole at o loops groups), finds here, refl)
+    value-right (code.submatch (lookaround negated backward) low high continuation) here reads =
+        let (lower, inside) = linear.ranked at (code.submatch (lookaround negated backward) low high continuation) (calm-there at (code.submatch (lookaround negated backward) low high continuation) here) here in
+        look-answers flow r v all program suits linear.flows linear.ranked dir negated backward low high continuation at o (told (suc at) o) (told continuation o) here
+        (inside-right (lookaround negated backward) inside) (to-right continuation o lower.within (lower.way ∙ way) lies (inr (refl, by_rank lower.rank)))
+      where
+        by_rank : (1 ≤ 0) ⊎ (rank_at h continuation < rank_at h at) → rank_at h continuation < rank_at h at
+        by_rank (inl never) = absurd (omega (arith, never))
+        by_rank (inr less) = less
+    value-right (code.submatch atomic low high continuation) here reads = absurd (linear.leaves at low high continuation atomic here)
+    value-right i here reads = plain-right i here refl reads
+
+    -- what is told of the exits of a one-character loop
+    module _ (least most : ℕ) (greedy : Bool) (i : Instruction) (here : Stands program at (code.single_loop least most greedy)) (there : Stands program (suc at) i)
+        (place : IsAtPlace (reading_of v) o) where
+      takes : takes_character i ≡ true
+      takes =
+          let (j, stands, taking, order) = suits.closed at (code.single_loop least most greedy) here in
+          subst (λ x. takes_character x ≡ true) (one_stands program (input_of v) (suc at) j i stands there) taking
+
+      body : IsBody program v (suc (suc at)) o
+      body = (i, subst (λ b. Stands program b i) (let e : suc at ≡ suc (suc at) - 1 = omega arith in e) there, takes, place, omega arith)
+
+      next-on : (q : ℕ) → advance program (input_of v) i dir [] o ≡ Some q → (room last dir q < room last dir o) × IsAtPlace (reading_of v) q
+      next-on q e =
+          let left = (advance-takes v program i dir [] o q (taking-unreferring i takes) e).1 in
+          let one = one-takes i takes in
+          let next = body-next v all program suits (suc (suc at)) o q i dir [] body (subst (λ b. Stands program b i) (let e : suc at ≡ suc (suc at) - 1 = omega arith in e) there) e in
+          (omega (arith, left, one), next.3)
+
+      pub exits-right : exits_at told (exits_by a at) at (advance program (input_of v) i dir [] o) ≡ one_beyond told program v dir at i o
+      exits-right = by_value (advance program (input_of v) i dir [] o) refl
+        where
+          by_value : (x : Option ℕ) → advance program (input_of v) i dir [] o ≡ x
+              → exits_at told (exits_by a at) at x ≡ elim x [ None ↦ false | Some q ↦ one_at told (suc (suc at)) (one_by_one program (input_of v) last i dir [] q) ]
+          by_value None e = refl
+          by_value (Some q) e =
+              let on = next-on q e in
+              let inside = place-lies v all q on.1 in
+              let known = (filled.right at q (subst (λ n. at < n) (sym linear.count) (stands-within at (code.single_loop least most greedy) here)) way inside (inl on.0)).1 least most greedy i here there on.1 in
+              let known' = subst (λ d. exits_by a at q ≡ one_beyond told program v (direction_of d) at i q) way known in
+              ap (λ b. told (suc (suc at)) q || b) known' ∙ sym (exits-told v program dir i takes told (suc (suc at)) last q (room-end last dir q inside))
+
+    -- what is told of exits further on
+    pub exits-known : at < length h.ranks → AreExitsRight told (exits_by a) program v dir at o
+    exits-known within least most greedy body here there q place further =
+        let known = (filled.right at q within way (place-lies v all q place) (inl (room-less last dir o q further))).1 least most greedy body here there place in
+        subst (λ d. exits_by a at q ≡ one_beyond told program v (direction_of d) at body q) way known
+
+    -- ---- the table with what was worked out
+
+    module _ (within : at < length h.ranks) (alone : (b : ℕ) → b < length h.ranks → rank_at h b ≡ k → b ≡ at) (a' : Answers) (value exit : Bool)
+        (told-is : (b q : ℕ) → told_by a' b q ≡ (told_by a b q || (((b == at) && (o == q)) && value)))
+        (exits-are : (b q : ℕ) → exits_by a' b q ≡ (exits_by a b q || (((b == at) && (o == q)) && exit))) where
+      told-same : (b q : ℕ) → (b ≡ at → q ≡ o → ⊥) → told_by a' b q ≡ told_by a b q
+      told-same b q other = told-is b q ∙ bit-elsewhere at o b q (told_by a b q) value other
+
+      exits-same' : (b q : ℕ) → (b ≡ at → q ≡ o → ⊥) → exits_by a' b q ≡ exits_by a b q
+      exits-same' b q other = exits-are b q ∙ bit-elsewhere at o b q (exits_by a b q) exit other
+
+      not-past : IsPast flow h program v forward k o at o → ⊥
+      not-past (inl less) = omega (arith, less)
+      not-past (inr (same, less)) = omega (arith, less, rank)
+
+      -- the exits of what is at the offset or further on are told as before
+      ones-same : (i : Instruction) → takes_character i ≡ true → (d : Direction) → d ≡ dir → (b n q : ℕ) → room last dir q < room last dir o
+          → one_at (told_by a') b (one_by_one program (input_of v) n i d [] q) ≡ one_at told b (one_by_one program (input_of v) n i d [] q)
+      unfolding one_by_one
+      ones-same i taking d is b zero q less = ap (λ x. x || false) (told-same b q (λ e f. let same = ap (room last dir) f in omega (arith, same, less)))
+      ones-same i taking d is b (suc n) q less =
+          ap₂ (λ x y. x || y) (told-same b q (λ e f. let same = ap (room last dir) f in omega (arith, same, less)))
+          (by_value (advance program (input_of v) i d [] q) refl (ones-same i taking d is b n))
+        where
+          rest_of : Option ℕ → List ℕ
+          rest_of x = elim x [ None ↦ [] | Some p ↦ one_by_one program (input_of v) n i d [] p ]
+
+          by_value : (x : Option ℕ) → advance program (input_of v) i d [] q ≡ x
+              → ((p : ℕ) → room last dir p < room last dir o → one_at (told_by a') b (one_by_one program (input_of v) n i d [] p) ≡ one_at told b (one_by_one program (input_of v) n i d [] p))
+              → one_at (told_by a') b (rest_of x) ≡ one_at told b (rest_of x)
+          by_value None e rest = refl
+          by_value (Some p) e rest =
+              let left = (advance-takes v program i dir [] q p (taking-unreferring i taking) (subst (λ x. advance program (input_of v) i x [] q ≡ Some p) is e)).1 in
+              rest p (omega (arith, left, less))
+
+      behind-same : (i : Instruction) → takes_character i ≡ true → (d : Direction) → d ≡ dir → (b q : ℕ) → room last dir q ≤ room last dir o
+          → one_beyond (told_by a') program v d b i q ≡ one_beyond told program v d b i q
+      behind-same i taking d is b q less = by_value (advance program (input_of v) i d [] q) refl
+        where
+          pick : (ℕ → ℕ → Bool) → Option ℕ → Bool
+          pick t x = elim x [ None ↦ false | Some p ↦ one_at t (suc (suc b)) (one_by_one program (input_of v) last i d [] p) ]
+
+          by_value : (x : Option ℕ) → advance program (input_of v) i d [] q ≡ x → pick (told_by a') x ≡ pick told x
+          by_value None e = refl
+          by_value (Some p) e =
+              let left = (advance-takes v program i dir [] q p (taking-unreferring i taking) (subst (λ x. advance program (input_of v) i x [] q ≡ Some p) is e)).1 in
+              let one = one-takes i taking in
+              ones-same i taking d is (suc (suc b)) last p (omega (arith, left, one, less))
+
+      -- what is told of another pair stays so
+      keeps : (b q : ℕ) → (b ≡ at → q ≡ o → ⊥) → forward_at h b ≡ forward → room last dir q ≤ room last dir o → IsRight flow h program v a b q × IsExitRight flow h program v a b q
+          → IsRight flow h program v a' b q × IsExitRight flow h program v a' b q
+      keeps b q other way' less (right, exits) = (
+        subst (λ x. IsAnswered flow r program v (way_of flow h program v b) b q x) (sym (told-same b q other)) right,
+        λ least most greedy i here there place.
+            let (j, stands, taking, order) = suits.closed b (code.single_loop least most greedy) here in
+            let takes = subst (λ x. takes_character x ≡ true) (one_stands program (input_of v) (suc b) j i stands there) taking in
+            exits-same' b q other ∙ exits least most greedy i here there place ∙ sym (behind-same i takes (way_of flow h program v b) (ap direction_of way') b q less),
+      )
+
+      -- So it is filled further.
+      pub filled-on : IsAnswered flow r program v dir at o value
+          → ((least most : ℕ) (greedy : Bool) (i : Instruction) → Stands program at (code.single_loop least most greedy) → Stands program (suc at) i → IsAtPlace (reading_of v) o
+          → exit ≡ one_beyond told program v dir at i o)
+          → IsFilled flow h program v a' forward (suc k) o
+      filled-on is exits = record {
+        right = λ b q within' way' inside past. right b q within' way' inside past;
+        fresh = λ b q way' inside unpast.
+            let other : b ≡ at → q ≡ o → ⊥ = λ e f. unpast (inr (f, let same = ap (rank_at h) e in omega (arith, same, rank))) in
+            let still : IsPast flow h program v forward k o b q → ⊥ = λ past. unpast (later b q past) in
+            let known = filled.fresh b q way' inside still in
+            (told-same b q other ∙ known.0, exits-same' b q other ∙ known.1);
+        later = λ back b q onward.
+            let different : b ≡ at → q ≡ o → ⊥ = λ e f. let x : true ≡ false = sym onward ∙ ap (forward_at h) e ∙ way ∙ back in absurd (cc x) in
+            let known = filled.later back b q onward in
+            (told-same b q different ∙ known.0, exits-same' b q different ∙ known.1);
+        other = λ onward b q within' back inside.
+            let different : b ≡ at → q ≡ o → ⊥ = λ e f. let x : true ≡ false = sym onward ∙ sym way ∙ sym (ap (forward_at h) e) ∙ back in absurd (cc x) in
+            subst (λ x. IsAnswered flow r program v (way_of flow h program v b) b q x) (sym (told-same b q different)) (filled.other onward b q within' back inside);
+      }
+        where
+          later : (b q : ℕ) → IsPast flow h program v forward k o b q → IsPast flow h program v forward (suc k) o b q
+          later b q (inl less) = inl less
+          later b q (inr (same, less)) = inr (same, omega (arith, less))
+
+          here-right : IsRight flow h program v a' at o × IsExitRight flow h program v a' at o
+          here-right =
+              let fresh = filled.fresh at o way lies not-past in (
+                subst (λ x. IsAnswered flow r program v (way_of flow h program v at) at o x) (sym (told-is at o ∙ bit-here at o (told_by a at o) value fresh.0))
+                    (subst (λ d. IsAnswered flow r program v (direction_of d) at o value) (sym way) is),
+                λ least most greedy i here there place.
+                    exits-are at o ∙ bit-here at o (exits_by a at o) exit fresh.1 ∙ exits least most greedy i here there place
+                    ∙ subst (λ d. one_beyond told program v dir at i o ≡ one_beyond (told_by a') program v (direction_of d) at i o) (sym way)
+                    (sym (behind-same i (takes least most greedy i here there place) dir refl at o (omega arith))),
+              )
+
+          right : (b q : ℕ) → b < length h.ranks → forward_at h b ≡ forward → q ≤ last → IsPast flow h program v forward (suc k) o b q
+              → IsRight flow h program v a' b q × IsExitRight flow h program v a' b q
+          right b q within' way' inside (inl less) =
+              keeps b q (λ e f. let same = ap (room last dir) f in omega (arith, same, less)) way' (omega (arith, less)) (filled.right b q within' way' inside (inl less))
+          right b q within' way' inside (inr (same, less)) = by_rank (cases_eq (rank_at h b) k)
+            where
+              by_rank : (rank_at h b ≡ k) ⊎ (rank_at h b ≡ k → ⊥) → IsRight flow h program v a' b q × IsExitRight flow h program v a' b q
+              by_rank (inl e) =
+                  subst (λ x. IsRight flow h program v a' x q × IsExitRight flow h program v a' x q) (sym (alone b within' e))
+                  (subst (λ x. IsRight flow h program v a' at x × IsExitRight flow h program v a' at x) (sym same) here-right)
+              by_rank (inr other) =
+                  let room-same = ap (room last dir) same in
+                  let lower : rank_at h b < k = below (rank_at h b) k less other in
+                  keeps b q (λ e f. other (ap (rank_at h) e ∙ rank)) way' (omega (arith, room-same)) (filled.right b q within' way' inside (inr (same, lower)))
+                where
+                  below : (x y : ℕ) → x < suc y → (x ≡ y → ⊥) → x < y
+                  below x y less other = elim (cases_eq x y) [ inl e ↦ absurd (other e) | inr e ↦ omega (arith, less, e) ]
+
+    -- So it is where an address is worked out by the instruction that stands there.
+    pub worked : (within : at < length h.ranks) → ((b : ℕ) → b < length h.ranks → rank_at h b ≡ k → b ≡ at) → (i : Instruction) → Stands program at i
+        → (reads_character i ≡ true → IsAtPlace (reading_of v) o) → (a' : Answers)
+        → ((b q : ℕ) → told_by a' b q ≡ (told_by a b q || (((b == at) && (o == q)) && answer_at told program (input_of v) dir i at o)))
+        → ((b q : ℕ) → exits_by a' b q ≡ (exits_by a b q || (((b == at) && (o == q)) && exits_value_at told (exits_by a) program (input_of v) dir i at o)))
+        → IsFilled flow h program v a' forward (suc k) o
+    worked within alone i here reads a' told-is exits-are =
+        filled-on within alone a' (answer_at told program (input_of v) dir i at o) (exits_value_at told (exits_by a) program (input_of v) dir i at o) told-is exits-are (value-right i here reads)
+        (λ least most greedy body single there place.
+        let one : suc at ≡ at + 1 = omega arith in
+        exits-value-is v program suits at least most greedy single told (exits_by a) dir o body (subst (λ b. Stands program b body) one there) i here
+        ∙ exits-right least most greedy body single there place)

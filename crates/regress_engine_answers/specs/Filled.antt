@@ -1,0 +1,42 @@
+-- What a table of answers tells while it is filled: offset by offset, and at each offset by rank.
+use Rattle.std.specs.Prelude.{◌≡◌, ℕ, suc, ◌-◌, ◌<◌, ◌≤◌, ◌⊎◌, Bool, true, false, length, if◌then◌else◌}
+use Rattle.regress_meaning.specs.Meaning.{Direction}
+use Rattle.regress_engine_input.specs.Views.{View, direction_of, reading_of}
+use Rattle.regress_engine_insn.specs.Instructions.{Instruction, Program, Stands}
+use Rattle.regress_engine_insn.specs.Instructions as code
+use Rattle.regress_engine_runs.specs.Meets.{IsAtPlace}
+use Rattle.regress_engine_runs.specs.Runs.{room}
+use Rattle.regress_engine_memory.specs.Flow.{Flow}
+use Rattle.regress_engine_linear.specs.Answered.{IsAnswered, one_beyond}
+use Rattle.regress_engine_answers.specs.AnswerTables.{exits_by, told_by}
+use Rattle.regress_engine_linear.specs.RankTables.{Heights, forward_at, rank_at, ranking_of}
+use Rattle.regress_engine_answers.specs.declared.answers.Answers.{Answers}
+
+module _ (flow : Flow) (h : Heights) (program : Program) (v : View) where
+  -- how an address is read
+  abbrev pub way_of : ℕ → Direction
+  way_of at = direction_of (forward_at h at)
+
+  -- what a table tells of an address and an offset is so
+  abbrev pub IsRight : Answers → (at o : ℕ) → Type 0
+  IsRight a at o = IsAnswered flow (ranking_of h) program v (way_of at) at o (told_by a at o)
+
+  -- What it tells of the exits of the one-character loop that stands at an address agrees with what it tells of each.
+  abbrev pub IsExitRight : Answers → (at o : ℕ) → Type 0
+  IsExitRight a at o = (least most : ℕ) (greedy : Bool) (body : Instruction) → Stands program at (code.single_loop least most greedy) → Stands program (suc at) body
+      → IsAtPlace (reading_of v) o → exits_by a at o ≡ one_beyond (told_by a) program v (way_of at) at body o
+
+  -- further on in the text than an offset, or there and ranked lower than so much
+  abbrev pub IsPast : (forward : Bool) → (k o : ℕ) → (at q : ℕ) → Type 0
+  IsPast forward k o at q = (room (length v.units) (direction_of forward) q < room (length v.units) (direction_of forward) o) ⊎ ((q ≡ o) × (rank_at h at < k))
+
+  -- All that is read forward, or backward, is told of as far as it is past, and of the rest nothing; what is read backward is told of first.
+  pub record IsFilled (a : Answers) (forward : Bool) (k o : ℕ) : Type 0 where
+    pub right : (at q : ℕ) → at < length h.ranks → forward_at h at ≡ forward → q ≤ length v.units → IsPast forward k o at q → IsRight a at q × IsExitRight a at q
+    pub fresh : (at q : ℕ) → forward_at h at ≡ forward → q ≤ length v.units → (IsPast forward k o at q → ⊥) → (told_by a at q ≡ false) × (exits_by a at q ≡ false)
+    pub later : forward ≡ false → (at q : ℕ) → forward_at h at ≡ true → (told_by a at q ≡ false) × (exits_by a at q ≡ false)
+    pub other : forward ≡ true → (at q : ℕ) → at < length h.ranks → forward_at h at ≡ false → q ≤ length v.units → IsRight a at q
+
+  -- all that a table tells is so
+  abbrev pub AreRight : Answers → Type 0
+  AreRight a = (at q : ℕ) → at < length h.ranks → q ≤ length v.units → IsRight a at q

@@ -1,0 +1,4 @@
+pub mod AnswerTables
+pub mod Filled
+pub mod Walked
+pub mod Searched

@@ -1,0 +1,140 @@
+-- The way along what is told to have an answer.
+use Rattle.std.specs.Prelude.{◌≡◌, ℕ, suc, ◌-◌, ◌<◌, ◌≤◌, Bool, true, false, List, [], ◌∷◌, length, Option, Some, None, if◌then◌else◌, get_or, nat_le, slice_get, slice_set}
+use Rattle.regress_meaning.specs.Meaning.{Direction, Forward}
+use Rattle.regress_meaning.specs.Inputs.{Input}
+use Rattle.regress_front_nodes.specs.Trees.{Submatch}
+use Rattle.regress_engine_input.specs.Views.{View, input_of, reading_of}
+use Rattle.regress_engine_insn.specs.Instructions.{LoopFields, Instruction, Program, Stands}
+use Rattle.regress_engine_insn.specs.Instructions as code
+use Rattle.regress_engine_runs.specs.Items.{Answers as EndsIn}
+use Rattle.regress_engine_runs.specs.Meets.{IsAtPlace}
+use Rattle.regress_engine_runs.specs.Runs.{Run, advance, after_times, fields_of, one_by_one}
+use Rattle.regress_engine_runs.specs.States.{Marks, Whole, begun, ended, unset}
+use Rattle.regress_engine_runs.specs.UndoStack.{whole}
+use Rattle.regress_engine_memory.specs.Flow.{Flow, IsFlow}
+use Rattle.regress_engine_linear.specs.Ranks.{AreRanked, AreRunning, AreUnbounded}
+use Rattle.regress_engine_linear.specs.RankTables.{ArePlaced, Heights, forward_at, ranking_of}
+use Rattle.regress_engine_linear.specs.Answered.{ReadsAlong, one_at}
+use Rattle.regress_engine_answers.specs.AnswerTables.{exits_by, told_by}
+use Rattle.regress_engine_linear.specs.Linear.{LeavesGroups}
+use Rattle.regress_engine_answers.specs.Filled.{AreRight, IsExitRight}
+use Rattle.regress_engine_answers.specs.declared.answers.Answers.{Answers}
+use Rattle.regress_engine_answers.specs.declared.walking.Station.{Station}
+
+-- the group whose marks an instruction writes
+abbrev pub written_by : Instruction → Option ℕ
+written_by (code.begin_group k) = Some k
+written_by (code.end_group k) = Some k
+written_by (code.reset_group k) = Some k
+written_by _ = None
+
+-- the groups behind an instruction
+abbrev pub marked : Direction → Instruction → (o : ℕ) → List Marks → List Marks
+marked dir (code.begin_group k) o groups = slice_set groups k (begun dir o (get_or groups k unset))
+marked dir (code.end_group k) o groups = slice_set groups k (ended dir o (get_or groups k unset))
+marked dir (code.reset_group k) o groups = slice_set groups k unset
+marked dir _ o groups = groups
+
+-- an address and an offset
+abbrev pub station : (at offset : ℕ) → Station
+station at offset = record { at = at; offset = offset }
+
+-- an address, with an offset, if there is one
+abbrev pub station_at : ℕ → Option ℕ → Option Station
+station_at at None = None
+station_at at (Some o) = Some (station at o)
+
+module _ (told : ℕ → ℕ → Bool) where
+  -- of two addresses the first, where it is told of there, else the second
+  abbrev pub first_of : (o a b : ℕ) → ℕ
+  first_of o a b = if told a o then a else b
+
+  -- of a repetition where one more iteration begins and where it is left, the preferred one first
+  abbrev pub either_of : (greedy : Bool) → (o more out : ℕ) → ℕ
+  either_of greedy o more out = if greedy then first_of o more out else first_of o out more
+
+  -- where a repetition begins
+  abbrev pub entered_at : LoopFields → (at o : ℕ) → ℕ
+  entered_at f at o = if nat_le f.least 0 then either_of f.greedy o (suc at) f.exit else suc at
+
+  -- where an iteration ends
+  abbrev pub again_at : (o begin : ℕ) → Option LoopFields → Option Station
+  again_at o begin None = None
+  again_at o begin (Some f) = Some (station (either_of f.greedy o (suc begin) f.exit) o)
+
+  -- the first of some offsets that is told of at an address
+  abbrev pub first_at : (at : ℕ) → List ℕ → Option ℕ
+  first_at at [] = None
+  first_at at (o ∷ os) = if told at o then Some o else first_at at os
+
+  -- the last of them, or another where there is none
+  abbrev pub last_at : (at : ℕ) → List ℕ → Option ℕ → Option ℕ
+  last_at at [] found = found
+  last_at at (o ∷ os) found = last_at at os (if told at o then Some o else found)
+
+  module _ (program : Program) (input : Input) (dir : Direction) (groups : List Marks) where
+    -- the preferred of the exits of a one-character loop, that goes on at an address, if it has as many characters as it needs
+    abbrev pub exit_at : (least most : ℕ) → (greedy : Bool) → Instruction → (at o : ℕ) → Option ℕ
+    exit_at least most greedy i at o = elim (after_times program input least i dir groups o) [
+      | None ↦ None
+      | Some near ↦ if greedy then last_at at (one_by_one program input (most - least) i dir groups near) None
+          else first_at at (one_by_one program input (most - least) i dir groups near)
+    ]
+
+    -- Where the way goes on from an address and an offset, by what is told of those to which the instruction leads; the groups are asked
+    -- by no instruction that it comes to.
+    abbrev pub led : Instruction → (at o : ℕ) → Option Station
+    led code.goal at o = None
+    led code.fail at o = None
+    led (code.submatch kind first last continuation) at o = Some (station continuation o)
+    led (code.jump a) at o = Some (station a o)
+    led (code.alt a) at o = Some (station (first_of o (suc at) a) o)
+    led (code.begin_group k) at o = Some (station (suc at) o)
+    led (code.end_group k) at o = Some (station (suc at) o)
+    led (code.reset_group k) at o = Some (station (suc at) o)
+    led (code.enter_loop f) at o = Some (station (entered_at f at o) o)
+    led (code.loop_again begin) at o = again_at o begin (fields_of (slice_get program.instructions begin))
+    led (code.single_loop least most greedy) at o = elim (slice_get program.instructions (suc at)) [
+      | None ↦ None
+      | Some i ↦ station_at (suc (suc at)) (exit_at least most greedy i (suc (suc at)) o)
+    ]
+    led i at o = station_at (suc at) (advance program input i dir groups o)
+
+-- What is told of the exits of a one-character loop, from one address to another, is so: behind at least one more character one of them is
+-- told of.
+abbrev pub AreExitsTold : Program → View → List Marks → Answers → Instruction → (from to : ℕ) → Type 0
+AreExitsTold program v groups a i from to = (o : ℕ) → IsAtPlace (reading_of v) o → exits_by a from o ≡ elim (advance program (input_of v) i Forward groups o) [
+  | None ↦ false
+  | Some q ↦ one_at (told_by a) to (one_by_one program (input_of v) (length v.units) i Forward groups q)
+]
+
+-- What is told of the exits of all one-character loops that are read forward is so.
+abbrev pub AreExitsKnown : Flow → Heights → Program → View → Answers → Type 0
+AreExitsKnown flow h program v a = (at o : ℕ) → at < length h.ranks → forward_at h at ≡ true → o ≤ length v.units → IsExitRight flow h program v a at o
+
+-- What a program and a table of answers are to be so that it may be walked along what is told.
+pub record MayWalk (flow : Flow) (h : Heights) (program : Program) (v : View) (a : Answers) : Type 0 where
+  pub closed : IsFlow flow program
+  pub ranked : AreRanked flow (ranking_of h) program
+  pub placed : ArePlaced h (length h.ranks)
+  pub unbounded : AreUnbounded (length v.units) program
+  pub leaves : (at first last continuation : ℕ) (kind : Submatch) → Stands program at (code.submatch kind first last continuation) → LeavesGroups kind first last
+  pub there : 0 < length h.ranks
+  pub calm : flow.calm 0 ≡ true
+  pub forward : forward_at h 0 ≡ true
+  pub silent : (id : ℕ) → flow.live 0 id ≡ true → ⊥
+  pub right : AreRight flow h program v a
+  pub exits : AreExitsKnown flow h program v a
+
+-- A way that began at an offset has come to an address and an offset, with some groups: from there a run has the answer that the run from
+-- its begin has.
+pub record IsOnWay (flow : Flow) (h : Heights) (program : Program) (v : View) (start at o : ℕ) (groups : List Marks) : Type 0 where
+  pub loops : List (ℕ × ℕ)
+  pub answer : Whole
+  pub steps : ℕ
+  pub running : AreRunning flow (ranking_of h) program (length v.units) Forward (whole at o loops groups)
+  pub there : at < length h.ranks
+  pub within : o ≤ length v.units
+  pub reads : ReadsAlong program v Forward (whole at o loops groups ∷ [])
+  pub run : Run program (input_of v) Forward (whole at o loops groups ∷ []) steps (Some answer)
+  pub answers : EndsIn program (input_of v) start (Some answer)

@@ -1,0 +1,224 @@
+//! How a table of answers is filled: offset by offset, and at each offset by rank.
+ghost use Rattle.std.specs.Prelude.{◌≡◌, ℕ, ◌+◌, ◌-◌, ◌^◌, ◌<◌, ◌≤◌, suc, false, true, IfOk, OnOk, length, slice_get};
+ghost use Rattle.regress_engine_code.specs.Standing.{program_of};
+ghost use Rattle.regress_engine_input.specs.Views.{direction_of, reading_of};
+ghost use Rattle.regress_engine_insn.specs.InsnViews.{instruction};
+ghost use Rattle.regress_engine_runs.specs.Meets.{IsAtPlace, reads_character};
+ghost use Rattle.regress_engine_search.specs.Search.{Suits};
+ghost use Rattle.regress_engine_answers.specs.AnswerTables.{IsSized, exits_by, in_set, told_by};
+ghost use Rattle.regress_engine_answers.specs.Filled.{AreRight, IsFilled};
+ghost use Rattle.regress_engine_linear.specs.Places.{IsAwaited, IsBehind, IsNextPlace, offset_of};
+ghost use Rattle.regress_engine_answers.specs.Walked.{AreExitsKnown};
+ghost use Rattle.regress_engine_linear.specs.Linear.{IsLinear};
+ghost use Rattle.regress_engine_linear.specs.LinearViews.{flow_in, heights_in};
+
+use crate::answers::{Answering, Answers};
+use regress_engine_advance::beside;
+use regress_engine_insn::Insn;
+use regress_engine_linear::LinearTable;
+use regress_engine_memory::Bits;
+use regress_engine_search::ExecutorInput;
+use std::alloc::{AllocError, Global};
+
+/// Whether an instruction reads the characters beside the offset where it stands.
+fn reads_character(insn: &Insn) -> bool
+    ensures { result ≡ reads_character (instruction insn.now) }
+{
+    match insn {
+        Insn::Char(_)
+        | Insn::StartOfLine { .. }
+        | Insn::EndOfLine { .. }
+        | Insn::MatchAny
+        | Insn::MatchAnyExceptLineTerminator
+        | Insn::Loop1CharBody { .. }
+        | Insn::BackRef { .. }
+        | Insn::Bracket(_)
+        | Insn::AsciiBracket(_)
+        | Insn::WordBoundary { .. }
+        | Insn::WordBoundaryUnicodeICase { .. }
+        | Insn::CharSet(_)
+        | Insn::ByteSet2(_)
+        | Insn::ByteSet3(_)
+        | Insn::ByteSet4(_) => true,
+        _ => false,
+    }
+}
+
+/// As many empty sets.
+fn empty_sets(alloc: Global, count: usize) -> Result<Vec<Bits>, AllocError>
+    ensures count { IfOk result (λ sets. length sets.items ≡ count) }
+    ensures empty { IfOk result (λ sets. (k n : ℕ) → in_set (slice_get sets.items k) n ≡ false) }
+{
+    let mut sets: Vec<Bits> = Vec::new(alloc);
+    for _ in 0..count {
+        sets.push(Bits::new(alloc))?;
+    }
+    Ok(sets)
+}
+
+impl Answers {
+    /// A table for so many addresses that tells of no answer yet.
+    fn empty(alloc: Global, count: usize) -> Result<Answers, AllocError>
+        ensures offsets { IfOk result (λ answers. length answers.offsets.items ≡ count) }
+        ensures exits { IfOk result (λ answers. length answers.exits.items ≡ count) }
+        ensures none { IfOk result (λ answers. (at o : ℕ) → told_by answers at o ≡ false) }
+        ensures none_behind { IfOk result (λ answers. (at o : ℕ) → exits_by answers at o ≡ false) }
+    {
+        Ok(Answers {
+            offsets: empty_sets(alloc, count)?,
+            exits: empty_sets(alloc, count)?,
+        })
+    }
+}
+
+impl<'a, Input: ExecutorInput> Answering<'a, Input> {
+    /// Works out the address of a rank at an offset, if it is read so. What reads characters is worked out at places alone: no run comes to
+    /// it elsewhere.
+    fn fill_at(
+        &self,
+        table: &LinearTable,
+        answers: &mut Answers,
+        forward: bool,
+        is_place: bool,
+        rank: usize,
+        offset: usize,
+    ) -> Result<(), AllocError>
+        requires suits { Suits (program_of self.now.program.now) (Input.view self.now.input) }
+        requires groups { length self.now.groups.now ≡ (program_of self.now.program.now).groups }
+        requires linear { IsLinear (flow_in table.now) (heights_in table.now) (program_of self.now.program.now) }
+        requires short { suc (length (Input.view self.now.input).units) < 2 ^ 64 - 1 }
+        requires within { rank < length (heights_in table.now).order }
+        requires lies { offset ≤ length (Input.view self.now.input).units }
+        requires place { is_place ≡ true → IsAtPlace (reading_of (Input.view self.now.input)) offset }
+        requires apart { is_place ≡ false → IsAtPlace (reading_of (Input.view self.now.input)) offset → ⊥ }
+        requires sized { IsSized (program_of self.now.program.now) answers.old }
+        requires filled { IsFilled (flow_in table.now) (heights_in table.now) (program_of self.now.program.now) (Input.view self.now.input) answers.old forward rank offset }
+        ensures sized { OnOk result (IsSized (program_of self.now.program.now) answers.new) }
+        ensures filled { OnOk result (IsFilled (flow_in table.now) (heights_in table.now) (program_of self.now.program.now) (Input.view self.now.input) answers.new forward (suc rank) offset) }
+    {
+        let at = table.address(rank);
+        if !table.is_due(forward, rank, at) {
+            return Ok(());
+        }
+        if !is_place && reads_character(self.instruction(at)) {
+            return Ok(());
+        }
+        self.work_at(answers, forward, at, offset)
+    }
+
+    /// Works out all addresses that are read so at an offset, the lowest rank first.
+    fn fill_offset(
+        &self,
+        table: &LinearTable,
+        answers: &mut Answers,
+        forward: bool,
+        is_place: bool,
+        offset: usize,
+    ) -> Result<(), AllocError>
+        requires suits { Suits (program_of self.now.program.now) (Input.view self.now.input) }
+        requires groups { length self.now.groups.now ≡ (program_of self.now.program.now).groups }
+        requires linear { IsLinear (flow_in table.now) (heights_in table.now) (program_of self.now.program.now) }
+        requires short { suc (length (Input.view self.now.input).units) < 2 ^ 64 - 1 }
+        requires lies { offset ≤ length (Input.view self.now.input).units }
+        requires place { is_place ≡ true → IsAtPlace (reading_of (Input.view self.now.input)) offset }
+        requires apart { is_place ≡ false → IsAtPlace (reading_of (Input.view self.now.input)) offset → ⊥ }
+        requires sized { IsSized (program_of self.now.program.now) answers.old }
+        requires filled { IsFilled (flow_in table.now) (heights_in table.now) (program_of self.now.program.now) (Input.view self.now.input) answers.old forward 0 offset }
+        ensures sized { OnOk result (IsSized (program_of self.now.program.now) answers.new) }
+        ensures filled { OnOk result (IsFilled (flow_in table.now) (heights_in table.now) (program_of self.now.program.now) (Input.view self.now.input) answers.new forward
+            (length (heights_in table.now).order) offset) }
+    {
+        for rank in 0..table.count() {
+            self.fill_at(table, answers, forward, is_place, rank, offset)?;
+        }
+        Ok(())
+    }
+
+    /// The place behind one that is left behind next, or the place itself where there is none.
+    fn next_place(&self, forward: bool, place: usize) -> usize
+        requires { IsAtPlace (reading_of (Input.view self.now.input)) place }
+        ensures { IsNextPlace (Input.view self.now.input) (direction_of forward) place result }
+    {
+        match beside(&self.input, !forward, place) {
+            Some((_, next)) => next,
+            None => place,
+        }
+    }
+
+    /// Works out all addresses that are read so at an offset, where `place` is the next place to come, and makes it the one behind.
+    fn fill_next(
+        &self,
+        table: &LinearTable,
+        answers: &mut Answers,
+        forward: bool,
+        offset: usize,
+        place: &mut usize,
+    ) -> Result<(), AllocError>
+        requires suits { Suits (program_of self.now.program.now) (Input.view self.now.input) }
+        requires groups { length self.now.groups.now ≡ (program_of self.now.program.now).groups }
+        requires linear { IsLinear (flow_in table.now) (heights_in table.now) (program_of self.now.program.now) }
+        requires short { suc (length (Input.view self.now.input).units) < 2 ^ 64 - 1 }
+        requires lies { offset ≤ length (Input.view self.now.input).units }
+        requires awaited { IsAwaited (Input.view self.now.input) (direction_of forward) offset place.old }
+        requires sized { IsSized (program_of self.now.program.now) answers.old }
+        requires filled { IsFilled (flow_in table.now) (heights_in table.now) (program_of self.now.program.now) (Input.view self.now.input) answers.old forward 0 offset }
+        ensures sized { OnOk result (IsSized (program_of self.now.program.now) answers.new) }
+        ensures filled { OnOk result (IsFilled (flow_in table.now) (heights_in table.now) (program_of self.now.program.now) (Input.view self.now.input) answers.new forward
+            (length (heights_in table.now).order) offset) }
+        ensures awaited { OnOk result ((q : ℕ) → q ≤ length (Input.view self.now.input).units → IsBehind (Input.view self.now.input) forward offset q
+            → IsAwaited (Input.view self.now.input) (direction_of forward) q place.new) }
+    {
+        let is_place = offset == *place;
+        self.fill_offset(table, answers, forward, is_place, offset)?;
+        if is_place {
+            *place = self.next_place(forward, *place);
+        }
+        Ok(())
+    }
+
+    /// Works out all that is read forward, or backward, at each offset of the text: against the direction, so that what is ahead is told.
+    fn fill_way(
+        &self,
+        table: &LinearTable,
+        answers: &mut Answers,
+        forward: bool,
+    ) -> Result<(), AllocError>
+        requires suits { Suits (program_of self.now.program.now) (Input.view self.now.input) }
+        requires groups { length self.now.groups.now ≡ (program_of self.now.program.now).groups }
+        requires linear { IsLinear (flow_in table.now) (heights_in table.now) (program_of self.now.program.now) }
+        requires short { suc (length (Input.view self.now.input).units) < 2 ^ 64 - 1 }
+        requires sized { IsSized (program_of self.now.program.now) answers.old }
+        requires filled { IsFilled (flow_in table.now) (heights_in table.now) (program_of self.now.program.now) (Input.view self.now.input) answers.old forward 0
+            (offset_of forward (length (Input.view self.now.input).units) 0) }
+        ensures sized { OnOk result (IsSized (program_of self.now.program.now) answers.new) }
+        ensures filled { OnOk result (IsFilled (flow_in table.now) (heights_in table.now) (program_of self.now.program.now) (Input.view self.now.input) answers.new forward
+            (length (heights_in table.now).order) (offset_of forward (length (Input.view self.now.input).units) (length (Input.view self.now.input).units))) }
+    {
+        let last = self.text_len();
+        let mut place = if forward { last } else { 0 };
+        let mut step = 0;
+        loop {
+            let offset = if forward { last - step } else { step };
+            self.fill_next(table, answers, forward, offset, &mut place)?;
+            if step == last {
+                return Ok(());
+            }
+            step += 1;
+        }
+    }
+
+    /// Works out for each address and each offset of the text whether runs from there have an answer. It errs where memory is refused.
+    pub(crate) fn answers(&self, alloc: Global, table: &LinearTable) -> Result<Answers, AllocError>
+        requires suits { Suits (program_of self.now.program.now) (Input.view self.now.input) }
+        requires groups { length self.now.groups.now ≡ (program_of self.now.program.now).groups }
+        requires linear { IsLinear (flow_in table.now) (heights_in table.now) (program_of self.now.program.now) }
+        requires short { suc (length (Input.view self.now.input).units) < 2 ^ 64 - 1 }
+        ensures right { IfOk result (AreRight (flow_in table.now) (heights_in table.now) (program_of self.now.program.now) (Input.view self.now.input)) }
+        ensures exits { IfOk result (AreExitsKnown (flow_in table.now) (heights_in table.now) (program_of self.now.program.now) (Input.view self.now.input)) }
+    {
+        let mut answers = Answers::empty(alloc, self.program.insns().len())?;
+        self.fill_way(table, &mut answers, false)?;
+        self.fill_way(table, &mut answers, true)?;
+        Ok(answers)
+    }
+}

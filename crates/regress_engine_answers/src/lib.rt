@@ -1,0 +1,10 @@
+//! Tables that tell of a linear program and a text from where runs have answers.
+#![tactic(auto)]
+
+mod answers;
+mod filling;
+mod searching;
+mod walking;
+
+pub use answers::{Answering, Answers};
+pub use searching::TextTable;

@@ -1,0 +1,437 @@
+//! The way along what is told to have an answer.
+ghost use Rattle.std.specs.Prelude.{◌≡◌, ◌+◌, ◌*◌, ◌-◌, ◌^◌, ◌<◌, ◌≤◌, if◌then◌else◌, ℕ, suc, [], ◌∷◌, false, true, None, Some, IfOk, OnOk, get_or, length, map, replicate, slice_get, slice_set};
+ghost use Rattle.regress_meaning.specs.Meaning.{Forward};
+ghost use Rattle.regress_engine_code.specs.Standing.{program_of};
+ghost use Rattle.regress_engine_input.specs.Views.{input_of, reading_of};
+ghost use Rattle.regress_engine_insn.specs.InsnViews.{instruction};
+ghost use Rattle.regress_engine_insn.specs.Instructions.{Instruction, Stands};
+ghost use Rattle.regress_engine_runs.specs.Meets.{IsAtPlace, reads_character};
+ghost use Rattle.regress_engine_runs.specs.Runs.{fields_of, one_by_one, room};
+ghost use Rattle.regress_engine_runs.specs.States.{begun, ended, first_state, unset};
+ghost use Rattle.regress_engine_runs.specs.UndoStack.{ReadOn, outermost};
+ghost use Rattle.regress_engine_search.specs.Answering.{IsAnswer};
+ghost use Rattle.regress_engine_search.specs.Ready.{IsBody, IsReady, is_simple};
+ghost use Rattle.regress_engine_search.specs.Search.{Suits};
+ghost use Rattle.regress_engine_search.specs.StateViews.{marks_of};
+ghost use Rattle.regress_engine_linear.specs.Answered.{is_single};
+ghost use Rattle.regress_engine_answers.specs.AnswerTables.{exits_by, told_by};
+ghost use Rattle.regress_engine_answers.specs.Filled.{AreRight};
+ghost use Rattle.regress_engine_linear.specs.Linear.{IsLinear};
+ghost use Rattle.regress_engine_linear.specs.LinearViews.{flow_in, heights_in};
+ghost use Rattle.regress_engine_answers.specs.Walked.{AreExitsKnown, AreExitsTold, again_at, either_of, exit_at, first_at, first_of, last_at, led, marked, station_at, written_by};
+
+use crate::answers::{Answering, Answers};
+use regress_engine_advance::{advance, after_times};
+use regress_engine_insn::Insn;
+use regress_engine_linear::LinearTable;
+use regress_engine_search::ExecutorInput;
+use regress_front_core::GroupData;
+use std::alloc::AllocError;
+
+/// An address, and an offset.
+#[derive(Debug, Clone, Copy)]
+pub(crate) struct Station {
+    /// The address.
+    pub(crate) at: usize,
+    /// The offset.
+    pub(crate) offset: usize,
+}
+
+/// An address with an offset, if there is one.
+fn station_at(at: usize, offset: Option<usize>) -> Option<Station>
+    ensures { result ≡ station_at at offset }
+{
+    match offset {
+        Some(offset) => Some(Station { at, offset }),
+        None => None,
+    }
+}
+
+/// An offset where it is told of, else what was found before.
+fn latest(is_told: bool, offset: usize, found: Option<usize>) -> Option<usize>
+    ensures { result ≡ (if is_told then Some offset else found) }
+{
+    if is_told { Some(offset) } else { found }
+}
+
+/// The marks of a group.
+fn marks_at(groups: &[GroupData<usize>], group: usize) -> GroupData<usize>
+    requires { group < length groups.now }
+    ensures { marks_of result ≡ get_or (map marks_of groups.now) group unset }
+{
+    groups[group]
+}
+
+/// Writes the marks of a group.
+fn write(groups: &mut Vec<GroupData<usize>>, group: usize, marks: GroupData<usize>)
+    requires { group < length groups.old.items }
+    ensures count { length groups.new.items ≡ length groups.old.items }
+    ensures marks { map marks_of groups.new.items ≡ slice_set (map marks_of groups.old.items) group (marks_of marks) }
+{
+    groups[group] = marks;
+}
+
+/// Marks with where a group begins.
+fn begun(marks: GroupData<usize>, offset: usize) -> GroupData<usize>
+    ensures { marks_of result ≡ begun Forward offset (marks_of marks) }
+{
+    GroupData {
+        start: Some(offset),
+        ..marks
+    }
+}
+
+/// Marks with where a group ends.
+fn ended(marks: GroupData<usize>, offset: usize) -> GroupData<usize>
+    ensures { marks_of result ≡ ended Forward offset (marks_of marks) }
+{
+    GroupData {
+        end: Some(offset),
+        ..marks
+    }
+}
+
+/// Writes that a group begins at an offset.
+fn begin(groups: &mut Vec<GroupData<usize>>, group: usize, offset: usize)
+    requires { group < length groups.old.items }
+    ensures count { length groups.new.items ≡ length groups.old.items }
+    ensures marks { map marks_of groups.new.items
+        ≡ slice_set (map marks_of groups.old.items) group (begun Forward offset (get_or (map marks_of groups.old.items) group unset)) }
+{
+    let marks = marks_at(groups, group);
+    write(groups, group, begun(marks, offset));
+}
+
+/// Writes that a group ends at an offset.
+fn end(groups: &mut Vec<GroupData<usize>>, group: usize, offset: usize)
+    requires { group < length groups.old.items }
+    ensures count { length groups.new.items ≡ length groups.old.items }
+    ensures marks { map marks_of groups.new.items
+        ≡ slice_set (map marks_of groups.old.items) group (ended Forward offset (get_or (map marks_of groups.old.items) group unset)) }
+{
+    let marks = marks_at(groups, group);
+    write(groups, group, ended(marks, offset));
+}
+
+/// Writes that a group has taken nothing.
+fn forget(groups: &mut Vec<GroupData<usize>>, group: usize)
+    requires { group < length groups.old.items }
+    ensures count { length groups.new.items ≡ length groups.old.items }
+    ensures marks { map marks_of groups.new.items ≡ slice_set (map marks_of groups.old.items) group unset }
+{
+    write(groups, group, GroupData::new());
+}
+
+/// Writes what an instruction says of groups at an offset, if it does. Asks that the group is there that it names.
+fn mark(insn: &Insn, offset: usize, groups: &mut Vec<GroupData<usize>>)
+    requires { (k : ℕ) → written_by (instruction insn.now) ≡ Some k → k < length groups.old.items }
+    ensures count { length groups.new.items ≡ length groups.old.items }
+    ensures marks { map marks_of groups.new.items ≡ marked Forward (instruction insn.now) offset (map marks_of groups.old.items) }
+{
+    match insn {
+        Insn::BeginCaptureGroup(group) => begin(groups, *group as usize, offset),
+        Insn::EndCaptureGroup(group) => end(groups, *group as usize, offset),
+        Insn::ResetCaptureGroup(group) => forget(groups, *group as usize),
+        _ => {}
+    }
+}
+
+/// As many groups, none of which has taken anything. It errs where memory is refused.
+fn reset(groups: &mut Vec<GroupData<usize>>, count: usize) -> Result<(), AllocError>
+    ensures count { OnOk result (length groups.new.items ≡ count) }
+    ensures marks { OnOk result (map marks_of groups.new.items ≡ replicate count unset) }
+{
+    groups.clear();
+    groups.resize(count, GroupData::new())?;
+    Ok(())
+}
+
+impl Answers {
+    /// Of two addresses the first, where runs from it and an offset have an answer, else the second.
+    fn first_of(&self, offset: usize, first: usize, second: usize) -> usize
+        ensures { result ≡ first_of (told_by self.now) offset first second }
+    {
+        if self.are_told(first, offset) {
+            first
+        } else {
+            second
+        }
+    }
+
+    /// Whether it is told that an exit of the one-character loop at an address has an answer, behind at least one more character from an offset.
+    fn has_exit(&self, at: usize, offset: usize) -> bool
+        ensures { result ≡ exits_by self.now at offset }
+    {
+        at < self.exits.len() && self.exits[at].contains(offset)
+    }
+
+    /// Where a repetition goes on, with one more iteration or behind it: the preferred one, where runs from there have an answer, else the other.
+    fn either_of(&self, greedy: bool, offset: usize, more: usize, exit: usize) -> usize
+        ensures { result ≡ either_of (told_by self.now) greedy offset more exit }
+    {
+        if greedy {
+            self.first_of(offset, more, exit)
+        } else {
+            self.first_of(offset, exit, more)
+        }
+    }
+}
+
+impl<'a, Input: ExecutorInput> Answering<'a, Input> {
+    /// Where a repetition goes on that begins at an address, where an iteration ends.
+    fn again_at(&self, answers: &Answers, begin: usize, offset: usize) -> Option<Station>
+        requires { begin + 1 < 2 ^ 64 }
+        ensures { result ≡ again_at (told_by answers.now) offset begin (fields_of (slice_get (program_of self.now.program.now).instructions begin)) }
+    {
+        match self.program.insns().get(begin) {
+            Some(Insn::EnterLoop(repetition)) => {
+                let more = begin + 1;
+                let exit = repetition.exit as usize;
+                let at = answers.either_of(repetition.greedy, offset, more, exit);
+                Some(Station { at, offset })
+            }
+            _ => None,
+        }
+    }
+
+    /// The first offset at which the loop that ends at an address may be left and runs have an answer: behind no character, or one, or more,
+    /// at most so many.
+    fn near_exit(
+        &self,
+        answers: &Answers,
+        body: &Insn,
+        left: usize,
+        at: usize,
+        near: usize,
+    ) -> Option<usize>
+        requires suits { Suits (program_of self.now.program.now) (Input.view self.now.input) }
+        requires groups { length self.now.groups.now ≡ (program_of self.now.program.now).groups }
+        requires stands { Stands (program_of self.now.program.now) (at - 1) (instruction body.now) }
+        requires body { IsBody (program_of self.now.program.now) (Input.view self.now.input) at near }
+        ensures { result ≡ first_at (told_by answers.now) at (one_by_one (program_of self.now.program.now) (input_of (Input.view self.now.input)) left
+            (instruction body.now) Forward (map marks_of self.now.groups.now) near) }
+    {
+        let mut behind = near;
+        let mut rest = left;
+        'places: loop {
+            if answers.are_told(at, behind) {
+                return Some(behind);
+            }
+            if rest == 0 {
+                return None;
+            }
+            let Some(next) = advance(self.program, &self.input, body, true, self.groups, behind)
+            else {
+                return None;
+            };
+            behind = next;
+            rest -= 1;
+        }
+    }
+
+    /// The last of these offsets, of the loop that begins at another address. It looks no further than where it is told that none is left.
+    fn far_exit(
+        &self,
+        answers: &Answers,
+        body: &Insn,
+        left: usize,
+        from: usize,
+        at: usize,
+        near: usize,
+    ) -> Option<usize>
+        requires suits { Suits (program_of self.now.program.now) (Input.view self.now.input) }
+        requires groups { length self.now.groups.now ≡ (program_of self.now.program.now).groups }
+        requires stands { Stands (program_of self.now.program.now) (at - 1) (instruction body.now) }
+        requires exits { AreExitsTold (program_of self.now.program.now) (Input.view self.now.input) (map marks_of self.now.groups.now)
+            answers.now (instruction body.now) from at }
+        requires body { IsBody (program_of self.now.program.now) (Input.view self.now.input) at near }
+        ensures { result ≡ last_at (told_by answers.now) at (one_by_one (program_of self.now.program.now) (input_of (Input.view self.now.input)) left
+            (instruction body.now) Forward (map marks_of self.now.groups.now) near) None }
+    {
+        let mut found: Option<usize> = None;
+        let mut behind = near;
+        let mut rest = left;
+        'places: loop {
+            let is_told = answers.are_told(at, behind);
+            found = latest(is_told, behind, found);
+            if rest == 0 {
+                return found;
+            }
+            if !answers.has_exit(from, behind) {
+                return found;
+            }
+            let Some(next) = advance(self.program, &self.input, body, true, self.groups, behind)
+            else {
+                return found;
+            };
+            behind = next;
+            rest -= 1;
+        }
+    }
+
+    /// The preferred offset at which a one-character loop may be left, from one address to another, where runs have an answer from there.
+    fn exit(
+        &self,
+        answers: &Answers,
+        body: &Insn,
+        least: usize,
+        most: usize,
+        greedy: bool,
+        from: usize,
+        at: usize,
+        offset: usize,
+    ) -> Option<usize>
+        requires suits { Suits (program_of self.now.program.now) (Input.view self.now.input) }
+        requires groups { length self.now.groups.now ≡ (program_of self.now.program.now).groups }
+        requires stands { Stands (program_of self.now.program.now) (at - 1) (instruction body.now) }
+        requires body { IsBody (program_of self.now.program.now) (Input.view self.now.input) at offset }
+        requires exits { AreExitsTold (program_of self.now.program.now) (Input.view self.now.input) (map marks_of self.now.groups.now)
+            answers.now (instruction body.now) from at }
+        requires order { least ≤ most }
+        ensures { result ≡ exit_at (told_by answers.now) (program_of self.now.program.now) (input_of (Input.view self.now.input)) Forward
+            (map marks_of self.now.groups.now) least most greedy (instruction body.now) at offset }
+    {
+        let Some(near) = after_times(
+            self.program,
+            &self.input,
+            body,
+            least,
+            true,
+            self.groups,
+            offset,
+        ) else {
+            return None;
+        };
+        if greedy {
+            self.far_exit(answers, body, most - least, from, at, near)
+        } else {
+            self.near_exit(answers, body, most - least, at, near)
+        }
+    }
+
+    /// Where the way goes on from an address and an offset, by an instruction that is no one-character loop.
+    fn led_on(&self, answers: &Answers, insn: &Insn, at: usize, offset: usize) -> Option<Station>
+        requires suits { Suits (program_of self.now.program.now) (Input.view self.now.input) }
+        requires ready { is_simple (instruction insn.now) ≡ true → IsReady (program_of self.now.program.now) (Input.view self.now.input) (instruction insn.now)
+            (map marks_of self.now.groups.now) offset }
+        requires room { at + 1 < 2 ^ 64 }
+        requires plain { is_single (instruction insn.now) ≡ false }
+        ensures { result ≡ led (told_by answers.now) (program_of self.now.program.now) (input_of (Input.view self.now.input)) Forward
+            (map marks_of self.now.groups.now) (instruction insn.now) at offset }
+    {
+        match insn {
+            Insn::Goal | Insn::JustFail | Insn::Loop1CharBody { .. } => None,
+            Insn::Lookahead { continuation, .. }
+            | Insn::Lookbehind { continuation, .. }
+            | Insn::Atomic { continuation, .. } => Some(Station {
+                at: *continuation as usize,
+                offset,
+            }),
+            Insn::Jump { target } => Some(Station {
+                at: *target as usize,
+                offset,
+            }),
+            Insn::Alt { secondary } => {
+                let at = answers.first_of(offset, at + 1, *secondary as usize);
+                Some(Station { at, offset })
+            }
+            Insn::BeginCaptureGroup(_) | Insn::EndCaptureGroup(_) | Insn::ResetCaptureGroup(_) => {
+                Some(Station { at: at + 1, offset })
+            }
+            Insn::EnterLoop(repetition) => {
+                if repetition.min_iters == 0 {
+                    let exit = repetition.exit as usize;
+                    let at = answers.either_of(repetition.greedy, offset, at + 1, exit);
+                    Some(Station { at, offset })
+                } else {
+                    Some(Station { at: at + 1, offset })
+                }
+            }
+            Insn::LoopAgain { begin } => self.again_at(answers, *begin as usize, offset),
+            _ => {
+                let next = advance(self.program, &self.input, insn, true, self.groups, offset);
+                station_at(at + 1, next)
+            }
+        }
+    }
+
+    /// Where the way goes on from an address and an offset, by the instruction that stands there.
+    fn led(&self, answers: &Answers, insn: &Insn, at: usize, offset: usize) -> Option<Station>
+        requires suits { Suits (program_of self.now.program.now) (Input.view self.now.input) }
+        requires groups { length self.now.groups.now ≡ (program_of self.now.program.now).groups }
+        requires stands { Stands (program_of self.now.program.now) at (instruction insn.now) }
+        requires ready { is_simple (instruction insn.now) ≡ true → IsReady (program_of self.now.program.now) (Input.view self.now.input) (instruction insn.now)
+            (map marks_of self.now.groups.now) offset }
+        requires place { reads_character (instruction insn.now) ≡ true → IsAtPlace (reading_of (Input.view self.now.input)) offset }
+        requires room { at + 1 < 2 ^ 64 }
+        requires exits { (i : Instruction) → is_single (instruction insn.now) ≡ true → Stands (program_of self.now.program.now) (at + 1) i
+            → AreExitsTold (program_of self.now.program.now) (Input.view self.now.input) (map marks_of self.now.groups.now) answers.now i at (at + 2) }
+        ensures { result ≡ led (told_by answers.now) (program_of self.now.program.now) (input_of (Input.view self.now.input)) Forward
+            (map marks_of self.now.groups.now) (instruction insn.now) at offset }
+    {
+        match insn {
+            Insn::Loop1CharBody {
+                min_iters,
+                max_iters,
+                greedy,
+            } => {
+                let body = self.instruction(at + 1);
+                let exit = self.exit(
+                    answers,
+                    body,
+                    *min_iters,
+                    *max_iters,
+                    *greedy,
+                    at,
+                    at + 2,
+                    offset,
+                );
+                station_at(at + 2, exit)
+            }
+            _ => self.led_on(answers, insn, at, offset),
+        }
+    }
+
+    /// Follows the way from an offset to where the run from there has its answer: it answers the offset where that ends, and writes its groups.
+    /// It counts each instruction that is done: at most as many as there are addresses and offsets up to where it ends. It errs where memory
+    /// is refused.
+    pub(crate) fn follow(
+        &self,
+        table: &LinearTable,
+        answers: &Answers,
+        start: usize,
+        groups: &mut Vec<GroupData<usize>>,
+        steps: &mut usize,
+    ) -> Result<usize, AllocError>
+        requires suits { Suits (program_of self.now.program.now) (Input.view self.now.input) }
+        requires groups { length self.now.groups.now ≡ (program_of self.now.program.now).groups }
+        requires linear { IsLinear (flow_in table.now) (heights_in table.now) (program_of self.now.program.now) }
+        requires short { suc (length (Input.view self.now.input).units) < 2 ^ 64 - 1 }
+        requires begins { 0 < length (program_of self.now.program.now).instructions }
+        requires right { AreRight (flow_in table.now) (heights_in table.now) (program_of self.now.program.now) (Input.view self.now.input) answers.now }
+        requires exits { AreExitsKnown (flow_in table.now) (heights_in table.now) (program_of self.now.program.now) (Input.view self.now.input) answers.now }
+        requires place { IsAtPlace (reading_of (Input.view self.now.input)) start }
+        requires reads { ReadOn (program_of self.now.program.now) (input_of (Input.view self.now.input)) (reading_of (Input.view self.now.input)) Forward
+            (first_state (program_of self.now.program.now) start ∷ []) (outermost []) }
+        requires told { told_by answers.now 0 start ≡ true }
+        ensures answer { IfOk result (λ end. IsAnswer (program_of self.now.program.now) (input_of (Input.view self.now.input)) start (Some end)
+            (map marks_of groups.new.items)) }
+        ensures counted { IfOk result (λ end. steps.new + room (length (Input.view self.now.input).units) Forward end * length (heights_in table.now).order
+            ≤ steps.old + room (length (Input.view self.now.input).units) Forward start * length (heights_in table.now).order + length (heights_in table.now).order) }
+    {
+        reset(groups, self.groups.len())?;
+        let mut here = Station {
+            at: 0,
+            offset: start,
+        };
+        'way: loop {
+            let insn = self.instruction(here.at);
+            *steps = steps.saturating_add(1);
+            mark(insn, here.offset, groups);
+            let Some(next) = self.led(answers, insn, here.at, here.offset) else {
+                return Ok(here.offset);
+            };
+            here = next;
+        }
+    }
+}

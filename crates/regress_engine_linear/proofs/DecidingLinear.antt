@@ -1,0 +1,76 @@
+-- A program that passes the test is linear.
+use Rattle.std.specs.Prelude.{IfSome, nat_le, nat_lt}
+use Rattle.std.proofs.Common.{◌≡◌, ℕ, ◌-◌, ◌^◌, ◌<◌, ◌≤◌, ◌⊎◌, inl, inr, ◌&&◌, ◌||◌, ◌==◌, Bool, true, false, List, [], ◌∷◌, length, get_or, Option, Some, refl, sym, ap, ◌∙◌, subst, arith}
+use Rattle.std.proofs.lemmas.Bool.{and_parts, or_cases, eqb-true, ltb-true, leb-true}
+use Rattle.std.proofs.lemmas.Option.{slice_get-get_or}
+use Rattle.regress_meaning.specs.Text.{holds}
+use Rattle.regress_front_nodes.specs.Trees.{Submatch, lookaround, atomic}
+use Rattle.regress_engine_insn.specs.Instructions.{LoopFields, Instruction, Program, Stands}
+use Rattle.regress_engine_insn.specs.Instructions as code
+use Rattle.regress_engine_memory.specs.Deciding.{Table, calm_at, flow_of, is_flow, live_at}
+use Rattle.regress_engine_memory.specs.Passing.{all_pass}
+use Rattle.regress_engine_memory.proofs.Deciding.{decides}
+use Rattle.regress_engine_memory.proofs.TableLemmas.{each-passes}
+use Rattle.regress_engine_linear.specs.Linear.{AreFew, IsLinear, IsUnbounded, LeavesGroups, few}
+use Rattle.regress_engine_linear.specs.LinearTests.{fits_at, is_fit, is_unbounded, may_stand}
+use Rattle.regress_engine_linear.specs.RankTables.{Heights, ArePlaced, are_ranked, forward_at}
+use Rattle.regress_engine_linear.proofs.Ranking.{ranks-decide}
+
+-- what is some is so
+pub if-some : {T : Type 0} (P : T → Type 0) (x : Option T) (y : T) → x ≡ Some y → IfSome x P → P y
+if-some P x y e known = subst (λ z. IfSome z P) e known
+
+module _ (t : Table) (h : Heights) (program : Program) (flows : is_flow t program ≡ true) (ranked : are_ranked h t program ≡ true) (placed : ArePlaced h (length program.instructions))
+    (fit : is_fit t h program ≡ true) where
+  abbrev rest : Bool
+  rest = (length (live_at t 0) == 0) && (forward_at h 0 && (nat_lt 0 (length h.ranks) && ((length h.ranks == length program.instructions) && (length h.order == length program.instructions))))
+
+  one : (at : ℕ) (i : Instruction) → Stands program at i → (calm_at t at ≡ true) × (may_stand i ≡ true)
+  one at i here =
+      and_parts (calm_at t at) (may_stand i) (each-passes (fits_at t) program (and_parts (all_pass (fits_at t) 0 program.instructions) rest fit).0 at i here)
+
+  none-live : length (live_at t 0) ≡ 0 → (id : ℕ) → holds (live_at t 0) id ≡ true → ⊥
+  none-live none id is = by_list (live_at t 0) none is
+    where
+      by_list : (ids : List ℕ) → length ids ≡ 0 → holds ids id ≡ true → ⊥
+      by_list [] e live = cc live
+      by_list (x ∷ ids) e live = omega (arith, e)
+
+  counted : (least most : ℕ) → (nat_le least few && (is_unbounded most || nat_le most few)) ≡ true → AreFew least most
+  counted least most e =
+      let both = and_parts (nat_le least few) (is_unbounded most || nat_le most few) e in (
+        leb-true least few both.0,
+        elim (or_cases (is_unbounded most) (nat_le most few) both.1) [
+          | inl is ↦ inl (eqb-true most (2 ^ 64 - 1) is)
+          | inr is ↦ inr (leb-true most few is)
+        ],
+      )
+
+  leaving : (kind : Submatch) (first last continuation : ℕ) → may_stand (code.submatch kind first last continuation) ≡ true → LeavesGroups kind first last
+  leaving (lookaround true backward) first last continuation e = tt
+  leaving (lookaround false backward) first last continuation e = leb-true last first e
+  leaving atomic first last continuation e = absurd (cc e)
+
+  pub linear-decides : IsLinear (flow_of t) h program
+  linear-decides =
+      let a = and_parts (all_pass (fits_at t) 0 program.instructions) rest fit in
+      let b = and_parts (length (live_at t 0) == 0) _ a.1 in
+      let c = and_parts (forward_at h 0) _ b.1 in
+      let some = and_parts (nat_lt 0 (length h.ranks)) _ c.1 in
+      let d = and_parts (length h.ranks == length program.instructions) (length h.order == length program.instructions) some.1 in
+      let count : length h.ranks ≡ length program.instructions = eqb-true (length h.ranks) (length program.instructions) d.0 in
+      let more = ltb-true 0 (length h.ranks) some.0 in
+      record {
+        flows = decides t program flows;
+        calm = λ at within. (one at (get_or program.instructions at code.fail) (slice_get-get_or program.instructions at code.fail within)).0;
+        silent = none-live (eqb-true (length (live_at t 0)) 0 b.0);
+        ranked = ranks-decide h t program ranked;
+        placed = placed;
+        count = count;
+        some = omega (arith, count, more);
+        ranks = eqb-true (length h.order) (length program.instructions) d.1;
+        begins = c.0;
+        unbounded = λ at f here. eqb-true f.most (2 ^ 64 - 1) (one at (code.enter_loop f) here).1;
+        counts = λ at least most greedy here. counted least most (one at (code.single_loop least most greedy) here).1;
+        leaves = λ at first last continuation kind here. leaving kind first last continuation (one at (code.submatch kind first last continuation) here).1;
+      }

@@ -1,0 +1,11 @@
+pub mod Running
+pub mod Alike
+pub mod RunsAlike
+pub mod Beyond
+pub mod FromStart
+pub mod Ranking
+pub mod AnswerLemmas
+pub mod Formulas
+pub mod Within
+pub mod NextPlaces
+pub mod DecidingLinear

@@ -1,0 +1,131 @@
+-- A table of ranks that passes its test tells what is so.
+use Rattle.std.specs.Prelude.{if◌then◌else◌, length, nat_le, nat_lt, not, slice_get}
+use Rattle.std.proofs.Common.{◌≡◌, ℕ, suc, ◌<◌, ◌≤◌, ◌⊎◌, inl, inr, ◌&&◌, ◌||◌, ◌==◌, Bool, true, false, Option, Some, None, refl, ap, ◌∙◌, arith}
+use Rattle.std.proofs.lemmas.Bool.{and_parts, or_cases, eqb-true, ltb-true, leb-true}
+use Rattle.regress_meaning.specs.Text.{holds}
+use Rattle.regress_meaning.specs.Meaning.{Direction}
+use Rattle.regress_engine_input.specs.Views.{direction_of}
+use Rattle.regress_front_nodes.specs.Trees.{Submatch, lookaround, atomic}
+use Rattle.regress_front_nodes.specs.TreeMeaning.{submatch_direction}
+use Rattle.regress_engine_insn.specs.Instructions.{LoopFields, Instruction, Program, Stands}
+use Rattle.regress_engine_insn.specs.Instructions as code
+use Rattle.regress_engine_runs.specs.Runs.{fields_of}
+use Rattle.regress_engine_memory.specs.Deciding.{Table, calm_at, flow_of, live_at}
+use Rattle.regress_engine_memory.specs.Needs.{taken_by}
+use Rattle.regress_engine_memory.proofs.TableLemmas.{each-passes}
+use Rattle.regress_engine_linear.specs.Ranks.{Lowers, Inside, IsCycle, Ranks, AreRanked}
+use Rattle.regress_engine_linear.specs.RankTables.{Heights, rank_at, forward_at, top_of, ranking_of, is_apart, is_read, lowers, turns, holds_inside, is_cycle, cycles, ranks, ranks_if_calm, are_ranked}
+use Rattle.regress_engine_linear.proofs.Running.{fields-stand}
+
+-- what is not so, or another thing is, is another thing where it is so
+implied : (a b : Bool) → (not a || b) ≡ true → a ≡ true → b ≡ true
+implied true b e is = e
+implied false b e is = absurd (cc is)
+
+not-so : (a : Bool) → not a ≡ true → a ≡ false
+not-so true e = absurd (cc e)
+not-so false e = refl
+
+refuted : (a : Bool) → not a ≡ true → a ≡ true → ⊥
+refuted true e is = cc e
+refuted false e is = cc is
+
+as-said : (b forward : Bool) → (if forward then b else not b) ≡ true → b ≡ forward
+as-said true true e = refl
+as-said false true e = absurd (cc e)
+as-said true false e = absurd (cc e)
+as-said false false e = refl
+
+module _ (h : Heights) (t : Table) where
+  read-so : (forward : Bool) (at : ℕ) → is_read h forward at ≡ true → (at < length h.ranks) × (forward_at h at ≡ forward)
+  read-so forward at e =
+      let both = and_parts (nat_lt at (length h.ranks)) (if forward then forward_at h at else not (forward_at h at)) e in
+      (ltb-true at (length h.ranks) both.0, as-said (forward_at h at) forward both.1)
+
+  lowers-so : (taken from to : ℕ) → lowers h taken from to ≡ true → Lowers (ranking_of h) taken from to
+  lowers-so taken from to e =
+      let both = and_parts (is_read h (forward_at h from) to) (nat_lt 0 taken || nat_lt (rank_at h to) (rank_at h from)) e in
+      let read = read-so (forward_at h from) to both.0 in
+      record {
+        within = read.0;
+        way = read.1;
+        rank = elim (or_cases (nat_lt 0 taken) (nat_lt (rank_at h to) (rank_at h from)) both.1) [
+          | inl some ↦ inl (ltb-true 0 taken some)
+          | inr less ↦ inr (ltb-true (rank_at h to) (rank_at h from) less)
+        ];
+      }
+
+  cycle-so : (at begin : ℕ) (f : LoopFields) → is_cycle h t at begin f ≡ true → IsCycle (flow_of t) (ranking_of h) at begin f
+  cycle-so at begin f e =
+      let a = and_parts (forward_at h at) _ e in
+      let b = and_parts (nat_le f.least 1) _ a.1 in
+      let c = and_parts (top_of h f.loop_id == rank_at h (suc begin)) _ b.1 in
+      let d = and_parts (lowers h 0 at (suc begin)) _ c.1 in
+      let k = and_parts (lowers h 0 at f.exit) (not (holds (live_at t f.exit) f.loop_id)) d.1 in
+      record {
+        forward = a.0;
+        least = leb-true f.least 1 b.0;
+        top = eqb-true (top_of h f.loop_id) (rank_at h (suc begin)) c.0;
+        more = lowers-so 0 at (suc begin) d.0;
+        out = lowers-so 0 at f.exit k.0;
+        left = refuted (holds (live_at t f.exit) f.loop_id) k.1;
+      }
+
+  turns-so : (kind : Submatch) (at : ℕ) → turns h kind at ≡ true → (suc at < length h.ranks) × (direction_of (forward_at h (suc at)) ≡ submatch_direction kind (direction_of (forward_at h at)))
+  turns-so (lookaround negated true) at e = let read = read-so false (suc at) e in (read.0, ap direction_of read.1)
+  turns-so (lookaround negated false) at e = let read = read-so true (suc at) e in (read.0, ap direction_of read.1)
+  turns-so atomic at e = let read = read-so (forward_at h at) (suc at) e in (read.0, ap direction_of read.1)
+
+  inside-so : (kind : Submatch) (at : ℕ) → holds_inside h kind at ≡ true → Inside (ranking_of h) kind at
+  inside-so kind at e =
+      let both = and_parts (turns h kind at) (is_apart h at) e in
+      let read = turns-so kind at both.0 in
+      record {
+        within = read.0;
+        way = read.1;
+        rank = elim (or_cases (is_read h (forward_at h at) (suc at) && nat_lt (rank_at h (suc at)) (rank_at h at)) (forward_at h at && not (forward_at h (suc at))) both.1) [
+          | inl lower ↦ inl (
+              let two = and_parts (is_read h (forward_at h at) (suc at)) (nat_lt (rank_at h (suc at)) (rank_at h at)) lower in
+              ((read-so (forward_at h at) (suc at) two.0).1, ltb-true (rank_at h (suc at)) (rank_at h at) two.1)
+              )
+          | inr turned ↦ inr (let two = and_parts (forward_at h at) (not (forward_at h (suc at))) turned in (two.0, not-so (forward_at h (suc at)) two.1))
+        ];
+      }
+
+  module _ (program : Program) where
+    cycles-so : (at begin : ℕ) → cycles h t at begin (fields_of (slice_get program.instructions begin)) ≡ true → Ranks (flow_of t) (ranking_of h) program at (code.loop_again begin)
+    cycles-so at begin e = by_fields (fields_of (slice_get program.instructions begin)) refl e
+      where
+        by_fields : (x : Option LoopFields) → fields_of (slice_get program.instructions begin) ≡ x → cycles h t at begin x ≡ true → Ranks (flow_of t) (ranking_of h) program at (code.loop_again begin)
+        by_fields None here e = absurd (cc e)
+        by_fields (Some f) here e = (f, fields-stand (slice_get program.instructions begin) f here, cycle-so at begin f e)
+
+    ranks-so : (at : ℕ) (i : Instruction) → ranks h t program at i ≡ true → Ranks (flow_of t) (ranking_of h) program at i
+    ranks-so at code.goal e = tt
+    ranks-so at code.fail e = tt
+    ranks-so at (code.back k icase) e = absurd (cc e)
+    ranks-so at (code.jump a) e = lowers-so 0 at a e
+    ranks-so at (code.alt a) e = let b = and_parts (lowers h 0 at (suc at)) (lowers h 0 at a) e in (lowers-so 0 at (suc at) b.0, lowers-so 0 at a b.1)
+    ranks-so at (code.enter_loop f) e = cycle-so at at f e
+    ranks-so at (code.loop_again begin) e = cycles-so at begin e
+    ranks-so at (code.single_loop least most greedy) e = lowers-so least at (suc (suc at)) e
+    ranks-so at (code.submatch kind first last continuation) e =
+        let b = and_parts (lowers h 0 at continuation) (holds_inside h kind at) e in (lowers-so 0 at continuation b.0, inside-so kind at b.1)
+    ranks-so at i e = lowers-so (taken_by i) at (suc at) e
+
+    -- So it is decided by one pass over the instructions.
+    pub ranks-decide : are_ranked h t program ≡ true → AreRanked (flow_of t) (ranking_of h) program
+    ranks-decide e at i calm here = ranks-so at i (implied (calm_at t at) (ranks h t program at i) (each-passes (ranks_if_calm h t program) program e at i here) calm)
+
+    module _ (at : ℕ) (i : Instruction) where
+      -- what is not ranked at a calm address does not pass
+      pub ranks-not : calm_at t at ≡ true → ranks h t program at i ≡ false → ranks_if_calm h t program at i ≡ false
+      ranks-not calm none = ap (λ b. not b || ranks h t program at i) calm ∙ none
+
+      -- what is ranked there, if it is calm, passes
+      pub ranks-too : (calm_at t at ≡ true → ranks h t program at i ≡ true) → ranks_if_calm h t program at i ≡ true
+      ranks-too leads = by_calm (calm_at t at) leads
+        where
+          by_calm : (b : Bool) → (b ≡ true → ranks h t program at i ≡ true) → (not b || ranks h t program at i) ≡ true
+          by_calm true f = f refl
+          by_calm false f = refl

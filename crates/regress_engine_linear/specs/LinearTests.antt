@@ -1,0 +1,32 @@
+-- The test that a program is linear.
+use Rattle.std.specs.Prelude.{ℕ, ◌-◌, ◌^◌, ◌&&◌, ◌||◌, ◌==◌, Bool, true, false, length, nat_le, nat_lt}
+use Rattle.regress_front_nodes.specs.Trees.{Submatch, lookaround, atomic}
+use Rattle.regress_engine_insn.specs.Instructions.{Instruction, Program}
+use Rattle.regress_engine_insn.specs.Instructions as code
+use Rattle.regress_engine_memory.specs.Deciding.{Table, calm_at, live_at}
+use Rattle.regress_engine_memory.specs.Passing.{all_pass}
+use Rattle.regress_engine_linear.specs.Linear.{few}
+use Rattle.regress_engine_linear.specs.RankTables.{Heights, forward_at}
+
+-- a greatest number is none
+abbrev pub is_unbounded : ℕ → Bool
+is_unbounded most = most == 2 ^ 64 - 1
+
+-- an instruction may stand in a linear program
+abbrev pub may_stand : Instruction → Bool
+may_stand (code.enter_loop f) = is_unbounded f.most
+may_stand (code.single_loop least most greedy) = nat_le least few && (is_unbounded most || nat_le most few)
+may_stand (code.submatch (lookaround true backward) first last continuation) = true
+may_stand (code.submatch (lookaround false backward) first last continuation) = nat_le last first
+may_stand (code.submatch atomic first last continuation) = false
+may_stand i = true
+
+module _ (t : Table) where
+  -- and it stands where no back reference can be reached
+  abbrev pub fits_at : (at : ℕ) → Instruction → Bool
+  fits_at at i = calm_at t at && may_stand i
+
+  -- all of a program do, of which there are some, and a ranking has a rank for each; where it begins nothing is live, and it is read forward
+  abbrev pub is_fit : Heights → Program → Bool
+  is_fit h program = all_pass fits_at 0 program.instructions && ((length (live_at t 0) == 0) && (forward_at h 0
+      && (nat_lt 0 (length h.ranks) && ((length h.ranks == length program.instructions) && (length h.order == length program.instructions)))))

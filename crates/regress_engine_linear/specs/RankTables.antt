@@ -1,0 +1,97 @@
+-- A table of ranks, and the test that instructions lead on to what is ranked lower.
+use Rattle.std.specs.Prelude.{◌≡◌, ◌<◌, ℕ, suc, ◌&&◌, ◌||◌, ◌==◌, not, Bool, true, false, List, Option, Some, None, if◌then◌else◌, length, get_or, slice_get, nat_lt, nat_le}
+use Rattle.regress_meaning.specs.Text.{holds}
+use Rattle.regress_front_nodes.specs.Trees.{Submatch, lookaround, atomic}
+use Rattle.regress_engine_insn.specs.Instructions.{LoopFields, Instruction, Program}
+use Rattle.regress_engine_insn.specs.Instructions as code
+use Rattle.regress_engine_runs.specs.Runs.{fields_of}
+use Rattle.regress_engine_memory.specs.Deciding.{Table, calm_at, live_at}
+use Rattle.regress_engine_memory.specs.Needs.{taken_by}
+use Rattle.regress_engine_memory.specs.Passing.{all_pass}
+use Rattle.regress_engine_linear.specs.Ranks.{Ranking}
+use Rattle.regress_engine_linear.specs.declared.ranks.RankTable.{RankTable}
+
+-- For each address its rank and whether it is read forward; for each loop the rank of where its body begins; and the addresses by rank.
+pub record Heights : Type 0 where
+  pub ranks : List ℕ
+  pub forward : List Bool
+  pub tops : List ℕ
+  pub order : List ℕ
+
+-- what a table of the code is
+abbrev pub heights_of : RankTable → Heights
+heights_of t = record { ranks = t.ranks.items; forward = t.forward.items; tops = t.tops.items; order = t.order.items }
+
+module _ (h : Heights) where
+  -- the rank of an address
+  abbrev pub rank_at : ℕ → ℕ
+  rank_at a = get_or h.ranks a 0
+
+  -- an address is read forward
+  abbrev pub forward_at : ℕ → Bool
+  forward_at a = get_or h.forward a false
+
+  -- the rank of where a loop's body begins
+  abbrev pub top_of : ℕ → ℕ
+  top_of id = get_or h.tops id 0
+
+  -- what the table tells
+  abbrev pub ranking_of : Ranking
+  ranking_of = record { count = length h.ranks; rank = rank_at; forward = forward_at; top = top_of }
+
+  -- each of so many addresses stands in the order where its rank tells
+  abbrev pub ArePlaced : (count : ℕ) → Type 0
+  ArePlaced count = (at : ℕ) → at < count → slice_get h.order (rank_at at) ≡ Some at
+
+  -- an address is there and is read so
+  abbrev pub is_read : (forward : Bool) → ℕ → Bool
+  is_read forward at = nat_lt at (length h.ranks) && (if forward then forward_at at else not (forward_at at))
+
+  -- from an address it is led to another by taking so much at least, or the other is ranked lower
+  abbrev pub lowers : (taken from to : ℕ) → Bool
+  lowers taken from to = is_read (forward_at from) to && (nat_lt 0 taken || nat_lt (rank_at to) (rank_at from))
+
+  -- the contents of a lookaround or an atomic group are read as its kind says
+  abbrev pub turns : Submatch → (at : ℕ) → Bool
+  turns (lookaround negated backward) at = is_read (not backward) (suc at)
+  turns atomic at = is_read (forward_at at) (suc at)
+
+  -- they are read as what is around them, and ranked lower, or backward where that is read forward
+  abbrev pub is_apart : (at : ℕ) → Bool
+  is_apart at = (is_read (forward_at at) (suc at) && nat_lt (rank_at (suc at)) (rank_at at)) || (forward_at at && not (forward_at (suc at)))
+
+  -- both hold of them
+  abbrev pub holds_inside : Submatch → (at : ℕ) → Bool
+  holds_inside kind at = turns kind at && is_apart at
+
+  module _ (t : Table) where
+    -- a repetition that begins at an address goes on from another
+    abbrev pub is_cycle : (at begin : ℕ) → LoopFields → Bool
+    is_cycle at begin f = forward_at at && (nat_le f.least 1 && ((top_of f.loop_id == rank_at (suc begin))
+        && (lowers 0 at (suc begin) && (lowers 0 at f.exit && not (holds (live_at t f.exit) f.loop_id)))))
+
+    -- where an instruction begins one
+    abbrev pub cycles : (at begin : ℕ) → Option LoopFields → Bool
+    cycles at begin None = false
+    cycles at begin (Some f) = is_cycle at begin f
+
+    -- an instruction at an address leads on to what is ranked lower, but where it takes something
+    abbrev pub ranks : Program → (at : ℕ) → Instruction → Bool
+    ranks program at code.goal = true
+    ranks program at code.fail = true
+    ranks program at (code.back k icase) = false
+    ranks program at (code.jump a) = lowers 0 at a
+    ranks program at (code.alt a) = lowers 0 at (suc at) && lowers 0 at a
+    ranks program at (code.enter_loop f) = is_cycle at at f
+    ranks program at (code.loop_again begin) = cycles at begin (fields_of (slice_get program.instructions begin))
+    ranks program at (code.single_loop least most greedy) = lowers least at (suc (suc at))
+    ranks program at (code.submatch kind first last continuation) = lowers 0 at continuation && holds_inside kind at
+    ranks program at i = lowers (taken_by i) at (suc at)
+
+    -- it does where its address is calm
+    abbrev pub ranks_if_calm : Program → (at : ℕ) → Instruction → Bool
+    ranks_if_calm program at i = not (calm_at t at) || ranks program at i
+
+    -- all of them do
+    abbrev pub are_ranked : Program → Bool
+    are_ranked program = all_pass (ranks_if_calm program) 0 program.instructions

@@ -1,0 +1,102 @@
+-- Programs of which no run comes back to an address without taking something, so that it visits each address and offset once.
+use Rattle.std.specs.Prelude.{◌≡◌, ℕ, suc, ◌+◌, ◌<◌, ◌≤◌, ◌⊎◌, Bool, true, false, List, [], ◌∷◌, length, get_or}
+use Rattle.regress_meaning.specs.Meaning.{Direction}
+use Rattle.regress_meaning.specs.Inputs.{Input}
+use Rattle.regress_front_nodes.specs.Trees.{Submatch}
+use Rattle.regress_front_nodes.specs.TreeMeaning.{submatch_direction}
+use Rattle.regress_engine_input.specs.Views.{direction_of}
+use Rattle.regress_engine_insn.specs.Instructions.{LoopFields, Instruction, Program, Stands}
+use Rattle.regress_engine_insn.specs.Instructions as code
+use Rattle.regress_engine_runs.specs.Runs.{room}
+use Rattle.regress_engine_runs.specs.States.{Marks, Whole}
+use Rattle.regress_engine_runs.specs.UndoStack.{Fails, whole}
+use Rattle.regress_engine_memory.specs.Flow.{Flow}
+use Rattle.regress_engine_memory.specs.Needs.{taken_by}
+use Rattle.regress_engine_memory.specs.Under.{IsFurther}
+
+-- For each of so many addresses a rank, and whether it is read forward; for each loop the rank of where its body begins.
+pub record Ranking : Type 0 where
+  pub count : ℕ
+  pub rank : ℕ → ℕ
+  pub forward : ℕ → Bool
+  pub top : ℕ → ℕ
+
+-- From an address it is led to another by taking at least so much: something, or the other is ranked lower. It is read as the first is.
+pub record Lowers (r : Ranking) (taken from to : ℕ) : Type 0 where
+  pub within : to < r.count
+  pub way : r.forward to ≡ r.forward from
+  pub rank : (1 ≤ taken) ⊎ (r.rank to < r.rank from)
+
+-- The contents of a lookaround or an atomic group are read as their kind says: as what is around them, and then they are ranked lower than
+-- where they stand; or backward where that is read forward.
+pub record Inside (r : Ranking) (kind : Submatch) (at : ℕ) : Type 0 where
+  pub within : suc at < r.count
+  pub way : direction_of (r.forward (suc at)) ≡ submatch_direction kind (direction_of (r.forward at))
+  pub rank : ((r.forward (suc at) ≡ r.forward at) × (r.rank (suc at) < r.rank at)) ⊎ ((r.forward at ≡ true) × (r.forward (suc at) ≡ false))
+
+-- A repetition that begins at an address goes on from another: it is read forward, its body begins with its rank, and behind it its loop is
+-- not live.
+pub record IsCycle (flow : Flow) (r : Ranking) (at begin : ℕ) (f : LoopFields) : Type 0 where
+  pub forward : r.forward at ≡ true
+  pub least : f.least ≤ 1
+  pub top : r.top f.loop_id ≡ r.rank (suc begin)
+  pub more : Lowers r 0 at (suc begin)
+  pub out : Lowers r 0 at f.exit
+  pub left : flow.live f.exit f.loop_id ≡ true → ⊥
+
+-- An instruction leads on to what is ranked lower, but where it takes something.
+abbrev pub Ranks : Flow → Ranking → Program → (at : ℕ) → Instruction → Type 0
+Ranks flow r program at code.goal = Unit {0}
+Ranks flow r program at code.fail = Unit {0}
+Ranks flow r program at (code.back k icase) = ⊥
+Ranks flow r program at (code.jump a) = Lowers r 0 at a
+Ranks flow r program at (code.alt a) = Lowers r 0 at (suc at) × Lowers r 0 at a
+Ranks flow r program at (code.enter_loop f) = IsCycle flow r at at f
+Ranks flow r program at (code.loop_again begin) = (f : LoopFields) × Stands program begin (code.enter_loop f) × IsCycle flow r at begin f
+Ranks flow r program at (code.single_loop least most greedy) = Lowers r least at (suc (suc at))
+Ranks flow r program at (code.submatch kind first last continuation) = Lowers r 0 at continuation × Inside r kind at
+Ranks flow r program at i = Lowers r (taken_by i) at (suc at)
+
+-- Each instruction at a calm address does.
+abbrev pub AreRanked : Flow → Ranking → Program → Type 0
+AreRanked flow r program = (at : ℕ) (i : Instruction) → flow.calm at ≡ true → Stands program at i → Ranks flow r program at i
+
+-- No repetition has a greatest number that a text of so many units lets it come to.
+abbrev pub AreUnbounded : (last : ℕ) → Program → Type 0
+AreUnbounded last program = (at : ℕ) (f : LoopFields) → Stands program at (code.enter_loop f) → suc last < f.most
+
+-- A loop is under way at an address and an offset: its iteration has begun there, at no lower rank, or behind.
+pub record IsRunning (r : Ranking) (last : ℕ) (dir : Direction) (at o id : ℕ) (x : ℕ × ℕ) : Type 0 where
+  pub begun : 1 ≤ x.0
+  pub few : x.0 + room last dir x.1 ≤ suc last
+  pub place : ((x.1 ≡ o) × (r.rank at ≤ r.top id)) ⊎ IsFurther last dir x.1 o
+
+-- The loops that are live in a state are under way.
+pub record AreRunning (flow : Flow) (r : Ranking) (program : Program) (last : ℕ) (dir : Direction) (s : Whole) : Type 0 where
+  pub calm : flow.calm s.at ≡ true
+  pub way : direction_of (r.forward s.at) ≡ dir
+  pub size : length s.loops ≡ program.loops
+  pub loops : (id : ℕ) → flow.live s.at id ≡ true → IsRunning r last dir s.at s.offset id (get_or s.loops id (0, 0))
+
+-- Two states stand at one address and offset, and the loops that are live there are under way in both.
+pub record AreBeside (flow : Flow) (r : Ranking) (program : Program) (last : ℕ) (dir : Direction) (s t : Whole) : Type 0 where
+  pub at : s.at ≡ t.at
+  pub offset : s.offset ≡ t.offset
+  pub first : AreRunning flow r program last dir s
+  pub second : AreRunning flow r program last dir t
+
+-- as many states do one by one
+abbrev pub AllBeside : Flow → Ranking → Program → (last : ℕ) → Direction → List Whole → List Whole → Type 0
+AllBeside flow r program last dir [] [] = Unit {0}
+AllBeside flow r program last dir (s ∷ ss) [] = ⊥
+AllBeside flow r program last dir [] (t ∷ ts) = ⊥
+AllBeside flow r program last dir (s ∷ ss) (t ∷ ts) = AreBeside flow r program last dir s t × AllBeside flow r program last dir ss ts
+
+-- One state is beyond another: further on in the text, or there at an address of lower rank.
+abbrev pub IsBeyond : Ranking → (last : ℕ) → Direction → Whole → Whole → Type 0
+IsBeyond r last dir s u = IsFurther last dir s.offset u.offset ⊎ ((u.offset ≡ s.offset) × (r.rank u.at < r.rank s.at))
+
+-- From an address and an offset no run has an answer, whatever the groups are, and whatever the loops that are under way there.
+abbrev pub FailsAnyhow : Flow → Ranking → Program → Input → (last : ℕ) → Direction → (at o : ℕ) → Type 0
+FailsAnyhow flow r program input last dir at o = (loops : List (ℕ × ℕ)) (groups : List Marks) → AreRunning flow r program last dir (whole at o loops groups)
+    → Fails program input dir (whole at o loops groups ∷ [])

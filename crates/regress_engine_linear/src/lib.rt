@@ -1,0 +1,14 @@
+//! Programs of which a search takes time that grows as program and text do.
+#![tactic(auto)]
+
+mod laws;
+mod making;
+mod ranks;
+mod testing;
+
+pub use laws::{
+    answers_are_told_by_those_ahead, running_failures_forget, running_states_lead_on,
+    running_states_run_alike, runs_go_beyond,
+};
+pub use ranks::RankTable;
+pub use testing::{LinearTable, MOST_REPEATS};

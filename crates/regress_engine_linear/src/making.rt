@@ -1,0 +1,203 @@
+//! How a table of ranks is made: in rounds, and then it is tested.
+ghost use Rattle.std.specs.Prelude.{◌≡◌, true, IfOk, IfSome, length, map};
+ghost use Rattle.regress_engine_insn.specs.Instructions.{Program};
+ghost use Rattle.regress_engine_insn.specs.InsnViews.{instruction};
+ghost use Rattle.regress_engine_memory.specs.TableViews.{table_of};
+ghost use Rattle.regress_engine_linear.specs.RankTables.{ArePlaced, are_ranked, heights_of};
+
+use crate::ranks::RankTable;
+use regress_engine_insn::Insn;
+use regress_engine_memory::{FlowTable, taken_by};
+use std::alloc::{AllocError, Global};
+
+/// In at most so many rounds ranks are worked out: one for each repetition around another, and one.
+const MOST_ROUNDS: usize = 16;
+
+/// The contents of a lookaround or an atomic group.
+#[derive(Debug, Clone, Copy)]
+struct Contents {
+    /// The address behind them.
+    end: usize,
+    /// Whether they are read forward.
+    is_forward: bool,
+}
+
+/// Leaves the contents that end at an address or before.
+fn leave(around: &mut Vec<Contents>, at: usize) {
+    while let Some(contents) = around.last() {
+        if at < contents.end {
+            return;
+        }
+        around.pop();
+    }
+}
+
+/// The contents that an instruction begins, where those around it are read forward or not.
+fn contents_of(insn: &Insn, is_forward: bool) -> Option<Contents> {
+    match insn {
+        Insn::Lookahead { continuation, .. } => Some(Contents {
+            end: *continuation as usize,
+            is_forward: true,
+        }),
+        Insn::Lookbehind { continuation, .. } => Some(Contents {
+            end: *continuation as usize,
+            is_forward: false,
+        }),
+        Insn::Atomic { continuation, .. } => Some(Contents {
+            end: *continuation as usize,
+            is_forward,
+        }),
+        _ => None,
+    }
+}
+
+/// The addresses of a program that are read forward.
+fn forward(alloc: Global, insns: &[Insn]) -> Result<Vec<bool>, AllocError> {
+    let mut forward = Vec::new(alloc);
+    let mut around: Vec<Contents> = Vec::new(alloc);
+    for at in 0..insns.len() {
+        leave(&mut around, at);
+        let is_forward = around.last().is_none_or(|contents| contents.is_forward);
+        forward.push(is_forward)?;
+        if let Some(contents) = contents_of(&insns[at], is_forward) {
+            around.push(contents)?;
+        }
+    }
+    Ok(forward)
+}
+
+/// The rank above that of an address.
+fn above(ranks: &[usize], at: usize) -> usize {
+    if at < ranks.len() {
+        ranks[at].saturating_add(1)
+    } else {
+        0
+    }
+}
+
+/// The rank of an address as its instruction suggests it, where those of the addresses behind it are known, and of those before it what was
+/// thought before.
+fn suggested_rank(insns: &[Insn], ranks: &[usize], before: &[usize], at: usize) -> usize {
+    let Some(insn) = insns.get(at) else {
+        return 0;
+    };
+    let next = above(ranks, at.saturating_add(1));
+    match insn {
+        Insn::Goal | Insn::JustFail | Insn::BackRef { .. } => 0,
+        Insn::Jump { target } => above(ranks, *target as usize),
+        Insn::Alt { secondary } => next.max(above(ranks, *secondary as usize)),
+        Insn::EnterLoop(repetition) => next.max(above(ranks, repetition.exit as usize)),
+        Insn::LoopAgain { begin } => {
+            let body = above(before, (*begin as usize).saturating_add(1));
+            match insns.get(*begin as usize) {
+                Some(Insn::EnterLoop(repetition)) => body.max(above(
+                    ranks,
+                    repetition.exit as usize,
+                )),
+                _ => body,
+            }
+        }
+        Insn::Loop1CharBody { min_iters: 0, .. } => above(ranks, at.saturating_add(2)),
+        Insn::Loop1CharBody { .. } => 0,
+        Insn::Lookahead { continuation, .. }
+        | Insn::Lookbehind { continuation, .. }
+        | Insn::Atomic { continuation, .. } => next.max(above(ranks, *continuation as usize)),
+        _ => { if taken_by(insn) > 0 { 0 } else { next } }
+    }
+}
+
+/// The ranks that the instructions suggest, from the last address on, by what was thought of each before.
+fn suggested_ranks(
+    alloc: Global,
+    insns: &[Insn],
+    before: &[usize],
+) -> Result<Vec<usize>, AllocError> {
+    let mut ranks: Vec<usize> = Vec::new(alloc);
+    ranks.resize(insns.len(), 0)?;
+    for at in (0..insns.len()).rev() {
+        let rank = suggested_rank(insns, &ranks, before, at);
+        if at < ranks.len() {
+            ranks[at] = rank;
+        }
+    }
+    Ok(ranks)
+}
+
+/// The addresses of a program, those first to which the instructions of others may lead without taking anything.
+fn order(alloc: Global, insns: &[Insn]) -> Result<Vec<usize>, AllocError> {
+    let mut ranks: Vec<usize> = Vec::new(alloc);
+    for _ in 0..MOST_ROUNDS {
+        ranks = suggested_ranks(alloc, insns, &ranks)?;
+    }
+    let mut order: Vec<usize> = Vec::new(alloc);
+    order.extend(0..insns.len())?;
+    order.sort_by_key(|at| above(&ranks, *at))?;
+    Ok(order)
+}
+
+/// For each of some addresses its place among them.
+fn places(alloc: Global, order: &[usize]) -> Result<Vec<usize>, AllocError> {
+    let mut places: Vec<usize> = Vec::new(alloc);
+    places.resize(order.len(), 0)?;
+    for place in 0..order.len() {
+        let at = order[place];
+        if at < places.len() {
+            places[at] = place;
+        }
+    }
+    Ok(places)
+}
+
+/// For each of so many loops the rank of where its body begins.
+fn tops(
+    alloc: Global,
+    insns: &[Insn],
+    ranks: &[usize],
+    loops: usize,
+) -> Result<Vec<usize>, AllocError> {
+    let mut tops: Vec<usize> = Vec::new(alloc);
+    tops.resize(loops, 0)?;
+    for at in 0..insns.len() {
+        if let Insn::EnterLoop(repetition) = &insns[at] {
+            let id = repetition.loop_id as usize;
+            let body = at.saturating_add(1);
+            if id < tops.len() && body < ranks.len() {
+                tops[id] = ranks[body];
+            }
+        }
+    }
+    Ok(tops)
+}
+
+impl RankTable {
+    /// The table of ranks of a program with so many loops, where each way leads back to an address only by taking something; `None` where
+    /// one does not. It errs only where memory is refused.
+    ///
+    /// ```rust
+    /// let ranks = RankTable::of(alloc, program.insns(), &flow, program.loops() as usize)?;
+    /// ```
+    pub fn of(
+        alloc: Global,
+        insns: &[Insn],
+        flow: &FlowTable,
+        loops: usize,
+    ) -> Result<Option<RankTable>, AllocError>
+        ensures ranked { IfOk result (λ found. IfSome found (λ table. (program : Program) → program.instructions ≡ map instruction insns.now
+            → are_ranked (heights_of table) (table_of flow.now) program ≡ true)) }
+        ensures placed { IfOk result (λ found. IfSome found (λ table. ArePlaced (heights_of table) (length insns.now))) }
+    {
+        let order = order(alloc, insns)?;
+        let ranks = places(alloc, &order)?;
+        let table = RankTable {
+            tops: tops(alloc, insns, &ranks, loops)?,
+            forward: forward(alloc, insns)?,
+            ranks,
+            order,
+        };
+        if table.are_placed(insns.len()) && table.are_ranked(flow, insns) {
+            Ok(Some(table))
+        } else {
+            Ok(None)
+        }
+    }
+}

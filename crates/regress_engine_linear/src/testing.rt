@@ -1,0 +1,162 @@
+//! The test that a program is linear.
+ghost use Rattle.std.specs.Prelude.{◌≡◌, ◌==◌, ◌<◌, ◌&&◌, false, true, Some, slice_get, nat_lt, IfOk, IfSome, length, map};
+ghost use Rattle.regress_engine_insn.specs.Instructions.{Program};
+ghost use Rattle.regress_engine_insn.specs.InsnViews.{instruction};
+ghost use Rattle.regress_engine_memory.specs.Deciding.{flow_of, live_at};
+ghost use Rattle.regress_engine_memory.specs.Passing.{all_pass};
+ghost use Rattle.regress_engine_memory.specs.TableViews.{table_of};
+ghost use Rattle.regress_engine_linear.specs.Linear.{IsDue, IsLinear};
+ghost use Rattle.regress_engine_linear.specs.LinearTests.{fits_at, is_unbounded, may_stand};
+ghost use Rattle.regress_engine_linear.specs.RankTables.{forward_at, heights_of};
+
+use crate::ranks::RankTable;
+use regress_engine_insn::Insn;
+use regress_engine_memory::FlowTable;
+use std::alloc::{AllocError, Global};
+
+/// The greatest number of iterations of a one-character loop that has one, in a program that is linear, and the greatest least number.
+pub const MOST_REPEATS: usize = 256;
+
+/// Whether a greatest number is none.
+fn is_unbounded(most: usize) -> bool
+    ensures { result ≡ is_unbounded most }
+{
+    most == usize::MAX
+}
+
+/// Whether an instruction may stand in a linear program.
+fn may_stand(insn: &Insn) -> bool
+    ensures { result ≡ may_stand (instruction insn.now) }
+{
+    match insn {
+        Insn::EnterLoop(repetition) => is_unbounded(repetition.max_iters),
+        Insn::Loop1CharBody {
+            min_iters,
+            max_iters,
+            ..
+        } => {
+            *min_iters <= MOST_REPEATS && (is_unbounded(*max_iters) || *max_iters <= MOST_REPEATS)
+        }
+        Insn::Lookahead {
+            negate,
+            start_group,
+            end_group,
+            ..
+        }
+        | Insn::Lookbehind {
+            negate,
+            start_group,
+            end_group,
+            ..
+        } => *negate || end_group <= start_group,
+        Insn::Atomic { .. } => false,
+        _ => true,
+    }
+}
+
+/// Whether an instruction may, and no back reference can be reached from where it stands.
+fn fits(flow: &FlowTable, at: usize, insn: &Insn) -> bool
+    ensures { result ≡ fits_at (table_of flow.now) at (instruction insn.now) }
+{
+    flow.is_calm(at) && may_stand(insn)
+}
+
+/// Whether each of some instructions may, and stands where no back reference can be reached.
+fn are_fit(flow: &FlowTable, insns: &[Insn]) -> bool
+    ensures { (program : Program) → program.instructions ≡ map instruction insns.now → result ≡ all_pass (fits_at (table_of flow.now)) 0 program.instructions }
+{
+    for at in 0..insns.len() {
+        if !fits(flow, at, &insns[at]) {
+            return false;
+        }
+    }
+    true
+}
+
+/// What is known of a program that is linear: of its loops and groups, and its ranks.
+#[derive(Debug, Drop)]
+pub struct LinearTable {
+    pub(crate) flow: FlowTable,
+    pub(crate) ranks: RankTable,
+}
+
+impl LinearTable {
+    /// Whether the ranks are those of so many addresses, and the program is read forward from its begin, where nothing is live.
+    fn begins(&self, count: usize) -> bool
+        ensures { result ≡ ((length (live_at (table_of self.now.flow) 0) == 0) && (forward_at (heights_of self.now.ranks) 0
+            && (nat_lt 0 (length (heights_of self.now.ranks).ranks) && ((length (heights_of self.now.ranks).ranks == count) && (length (heights_of self.now.ranks).order == count))))) }
+    {
+        self.flow.live(0).is_empty()
+            && self.ranks.is_forward(0)
+            && 0 < self.ranks.ranks.len()
+            && self.ranks.ranks.len() == count
+            && self.ranks.order.len() == count
+    }
+
+    /// How many addresses the program has.
+    ///
+    /// ```rust
+    /// let count = table.count();
+    /// ```
+    pub fn count(&self) -> usize
+        ensures { result ≡ length (heights_of self.now.ranks).order }
+    {
+        self.ranks.order.len()
+    }
+
+    /// The address of a rank.
+    ///
+    /// Asks that the rank is that of an address.
+    ///
+    /// ```rust
+    /// let lowest = table.address(0);
+    /// ```
+    pub fn address(&self, rank: usize) -> usize
+        requires { rank < length (heights_of self.now.ranks).order }
+        ensures { slice_get (heights_of self.now.ranks).order rank ≡ Some result }
+    {
+        self.ranks.order[rank]
+    }
+
+    /// Whether an address is there, has a rank, and is read forward, or backward.
+    ///
+    /// ```rust
+    /// let begins_last = table.is_due(true, table.count() - 1, 0);
+    /// ```
+    pub fn is_due(&self, forward: bool, rank: usize, at: usize) -> bool
+        ensures due { result ≡ true → IsDue (heights_of self.now.ranks) forward rank at }
+        ensures other { result ≡ false → IsDue (heights_of self.now.ranks) forward rank at → ⊥ }
+    {
+        self.ranks.is_read(forward, at) && self.ranks.rank(at) == rank
+    }
+
+    /// The table of a program with so many loops, where the program is linear; `None` where it is not. It errs only where memory is refused.
+    ///
+    /// ```rust
+    /// let table = LinearTable::of(alloc, program.insns(), program.loops() as usize)?;
+    /// ```
+    pub fn of(
+        alloc: Global,
+        insns: &[Insn],
+        loops: usize,
+    ) -> Result<Option<LinearTable>, AllocError>
+        ensures { IfOk result (λ found. IfSome found (λ table. (program : Program) → program.instructions ≡ map instruction insns.now
+            → IsLinear (flow_of (table_of table.flow)) (heights_of table.ranks) program)) }
+    {
+        let Some(flow) = FlowTable::of(alloc, insns, loops)? else {
+            return Ok(None);
+        };
+        if !are_fit(&flow, insns) {
+            return Ok(None);
+        }
+        let Some(ranks) = RankTable::of(alloc, insns, &flow, loops)? else {
+            return Ok(None);
+        };
+        let table = LinearTable { flow, ranks };
+        if table.begins(insns.len()) {
+            Ok(Some(table))
+        } else {
+            Ok(None)
+        }
+    }
+}

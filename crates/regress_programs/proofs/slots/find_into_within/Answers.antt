@@ -1,0 +1,46 @@
+use Rattle.std.specs.Prelude.{IfErr}
+use Rattle.std.proofs.Common.{◌≡◌, ℕ, Option, Some, IfOk, sym, ◌∙◌, subst}
+use Rattle.std.proofs.lemmas.Result.{IfOk-weaker}
+use Rattle.regress_meaning.specs.Offsets.{Begins}
+use Rattle.regress_match.specs.Slots.{Fills}
+use Rattle.regress_engine_code.specs.declared.compiled.CompiledRegex.{CompiledRegex}
+use Rattle.regress_engine_code.specs.Standing.{target_of}
+use Rattle.regress_engine_input.specs.Views.{View, reading_of}
+use Rattle.regress_programs.specs.Counting.{Counts}
+use Rattle.regress_programs.specs.Filling.{SlotsAreAtPlaces, first_told}
+use Rattle.regress_programs.specs.Programs.{IsLaidOutFrom}
+use Rattle.regress_programs.proofs.slots.find_into_within.Goals as goal
+
+pub next_into-found-requires-clause-start : goal.next_into-found-requires-clause-start
+next_into-found-requires-clause-start g c =
+    let context = c.with_budget-executor.result.context in
+    let shown : g.Input.InputIndexer.view context.input ≡ g.Input.InputIndexer.view c.args.input =
+    sym (g.met.Input.ExecutorInput.shows context.input) ∙ c.with_budget-executor.ensures.text in
+    subst (λ v. (place : ℕ) × Begins (reading_of v) c.args.start place) (sym shown) c.requires.start
+
+pub returns-clause-of_tree : goal.returns-clause-of_tree
+returns-clause-of_tree g c = λ n t laid place begins.
+    let context = c.with_budget-executor.result.context in
+    let shown : g.Input.InputIndexer.view context.input ≡ g.Input.InputIndexer.view c.args.input =
+    sym (g.met.Input.ExecutorInput.shows context.input) ∙ c.with_budget-executor.ensures.text in
+    let same : context.program.now ≡ c.args.program.now = c.with_budget-executor.ensures.program in
+    let told = c.next_into-found.ensures.of_tree n t (subst (λ p. IsLaidOutFrom (target_of p) n t) (sym same) laid) place
+    (subst (λ v. Begins (reading_of v) c.args.start place) (sym shown) begins) in
+    subst (λ (x : CompiledRegex × View). IfOk c.next_into-found.result (λ found. Fills (first_told c.args.anchored x.0 (reading_of x.1) n t place) found c.args.slots.now c.next_into-found.new.slots))
+    (λ i. (same i, shown i)) told
+
+pub returns-clause-inside : goal.returns-clause-inside
+returns-clause-inside g c =
+    let context = c.with_budget-executor.result.context in
+    let shown : g.Input.InputIndexer.view context.input ≡ g.Input.InputIndexer.view c.args.input =
+    sym (g.met.Input.ExecutorInput.shows context.input) ∙ c.with_budget-executor.ensures.text in
+    IfOk-weaker c.next_into-found.result _ _ (λ found. subst (λ v. SlotsAreAtPlaces (reading_of v) found c.next_into-found.new.slots) shown) c.next_into-found.ensures.inside
+
+pub returns-clause-stopped : goal.returns-clause-stopped
+returns-clause-stopped g c =
+    let context = c.with_budget-executor.result.context in
+    let shown : g.Input.InputIndexer.view context.input ≡ g.Input.InputIndexer.view c.args.input =
+    sym (g.met.Input.ExecutorInput.shows context.input) ∙ c.with_budget-executor.ensures.text in
+    let same : context.program.now ≡ c.args.program.now = c.with_budget-executor.ensures.program in
+    subst (λ (x : CompiledRegex × View × Option ℕ). IfErr c.next_into-found.result (λ e. g.B.SearchBudget.is_over e → Counts c.args.anchored x.0 x.1 c.args.start x.2 (Some 0)))
+    (λ i. (same i, shown i, g.B.Budget.left (c.with_budget-executor.ensures.budget i))) c.next_into-found.ensures.stopped
