@@ -1,5 +1,5 @@
 //! The search for the first place from which a run has an answer.
-ghost use Rattle.std.specs.Prelude.{◌≡◌, false, Some, option_map, IfOk, IfErr, IfSome, OnErr};
+ghost use Rattle.std.specs.Prelude.{◌≡◌, ◌||◌, false, true, length, Some, option_map, IfOk, IfErr, IfSome, OnErr};
 ghost use Rattle.regress_match.specs.GroupViews.{names_of_match};
 ghost use Rattle.regress_match.specs.Views.{item_of};
 ghost use Rattle.regress_engine_code.specs.Standing.{names_of, program_of};
@@ -13,14 +13,19 @@ ghost use Rattle.regress_engine_search.specs.Answering.{IsAnswer, IsFound, IsOut
 ghost use Rattle.regress_engine_search.specs.Search.{IsMadeOf, IsItemAtPlaces, IsWritten};
 ghost use Rattle.regress_engine_attempt.specs.Attempts.{Remembers, world_of};
 ghost use Rattle.regress_engine_attempt.specs.Counting.{CountsRun};
+ghost use Rattle.regress_engine_linear.specs.Linear.{IsLinear};
+ghost use Rattle.regress_engine_linear.specs.LinearViews.{flow_in, heights_in};
 ghost use Rattle.regress_engine_exec.specs.Counting.{CountsSearch};
+ghost use Rattle.regress_engine_exec.specs.Turned.{NeverOver, Turns, fits_told};
 
 use crate::budget::SearchBudget;
 use crate::finding::{first_from, run_from};
 use crate::scratch::Scratch;
+use crate::turning::{Turning, fits_told};
 use regress_engine_attempt::Remembered;
 use regress_engine_code::CompiledRegex;
 use regress_engine_inputs::Utf8Input;
+use regress_engine_linear::LinearTable;
 use regress_engine_search::{
     Ended, ExecutorInput, SearchContext, Shown, StepsLeft, Unbounded, fill_slots,
 };
@@ -37,7 +42,9 @@ pub struct Backtracker<'r, Input: Shown, B> {
     scratch: Scratch,
     remembered: Remembered,
     budget: B,
+    turning: Option<Turning<'r>>,
     ghost so: { ∥ Remembers (world_of context.program.now (Input.shown context.input)) remembered ∥₁ },
+    ghost turns: { ∥ IfSome turning (Turns (program_of context.program.now) (Input.shown context.input)) ∥₁ },
 }
 
 /// Finds the matches of a program in a text, however many steps that takes.
@@ -105,7 +112,7 @@ impl<'r, Input: ExecutorInput> BoundedExecutor<'r, Input> {
 }
 
 impl<'r, Input: ExecutorInput, B: SearchBudget> Backtracker<'r, Input, B> {
-    ghost use Rattle.regress_engine_exec.specs.Searches.{budget_of, groups_in, program_in, search_in};
+    ghost use Rattle.regress_engine_exec.specs.Searches.{budget_of, groups_in, program_in, search_in, turns_in};
 
     /// The executor of a program over a text, with room that other searches have left, and a budget for all its searches.
     ///
@@ -126,6 +133,7 @@ impl<'r, Input: ExecutorInput, B: SearchBudget> Backtracker<'r, Input, B> {
         ensures program { (search_in result).compiled ≡ program.entry.now }
         ensures text { (search_in result).view ≡ Input.view input }
         ensures budget { budget_of result ≡ budget }
+        ensures turns { turns_in result ≡ false }
     {
         let context = SearchContext::new(program, input);
         let remembered = Remembered::new(alloc, context.text_len());
@@ -135,6 +143,7 @@ impl<'r, Input: ExecutorInput, B: SearchBudget> Backtracker<'r, Input, B> {
             scratch,
             remembered,
             budget,
+            turning: None,
         }
     }
 
@@ -147,6 +156,85 @@ impl<'r, Input: ExecutorInput, B: SearchBudget> Backtracker<'r, Input, B> {
         self.scratch
     }
 
+    /// The same executor, which from now on turns to a table where no more steps may be counted: then its searches go on by that, in time
+    /// that grows as program and text do, and none errs with `TooManySteps`. The table takes room for each address of the program at each
+    /// offset of the text; where that would be more than `MOST_TOLD` bits, the executor stays as it was.
+    ///
+    /// Asks that the program is linear, as its table says.
+    ///
+    /// ```rust
+    /// let mut executor = Backtracker::with_budget(alloc, &program, input, scratch, StepsLeft(1_000_000));
+    /// if let Some(table) = &table {
+    ///     executor = executor.with_linear(table);
+    /// }
+    /// ```
+    pub fn with_linear(mut self, table: &'r LinearTable) -> Self
+        requires linear { IsLinear (flow_in table.now) (heights_in table.now) (program_in self) }
+        ensures searched { search_in result ≡ search_in self }
+        ensures budget { budget_of result ≡ budget_of self }
+        ensures turns { turns_in result ≡ (fits_told table.now (length (search_in self).view.units) || turns_in self) }
+    {
+        if fits_told(table, self.context.text_len()) {
+            self.turning = Some(Turning { table, told: None });
+        }
+        self
+    }
+
+    /// Whether it has turned to a table of the text.
+    fn has_turned(&self) -> bool
+        ensures { result ≡ true → turns_in self.now ≡ true }
+    {
+        match &self.turning {
+            Some(turning) => turning.told.is_some(),
+            None => false,
+        }
+    }
+
+    /// Searches from an offset on by tables, if it turns to them; else no more steps may be counted, and it errs since there would be too
+    /// many. It answers as `search` does.
+    fn search_told(&mut self, offset: usize) -> Result<Option<(usize, usize)>, B::Error>
+        requires place { IsAtPlace (reading_of (Input.view self.old.context.input)) offset }
+        requires over { turns_in self.old ≡ false → B.left (budget_of self.old) ≡ Some 0 }
+        ensures found { IfOk result (λ found. IsFound (program_in self.old) (input_of (Input.view self.old.context.input)) offset found (groups_in self.new)) }
+        ensures never { IfErr result (NeverOver B.is_over (turns_in self.old)) }
+        ensures budget { budget_of self.new ≡ budget_of self.old }
+        ensures kept { self.new.context ≡ self.old.context }
+        ensures turns { turns_in self.new ≡ turns_in self.old }
+    {
+        let Some(turning) = &mut self.turning else {
+            return Err(self.budget.over());
+        };
+        let found = turning.first_from(
+            self.alloc,
+            &self.context,
+            &mut self.scratch.memory.groups,
+            offset,
+        )?;
+        Ok(found)
+    }
+
+    /// Runs the program from an offset by tables, if it turns to them, as `search_told` searches. It answers as `run_at` does.
+    fn run_told(&mut self, offset: usize) -> Result<Option<usize>, B::Error>
+        requires place { IsAtPlace (reading_of (Input.view self.old.context.input)) offset }
+        requires over { turns_in self.old ≡ false → B.left (budget_of self.old) ≡ Some 0 }
+        ensures answer { IfOk result (λ end. IsAnswer (program_in self.old) (input_of (Input.view self.old.context.input)) offset end (groups_in self.new)) }
+        ensures never { IfErr result (NeverOver B.is_over (turns_in self.old)) }
+        ensures budget { budget_of self.new ≡ budget_of self.old }
+        ensures kept { self.new.context ≡ self.old.context }
+        ensures turns { turns_in self.new ≡ turns_in self.old }
+    {
+        let Some(turning) = &mut self.turning else {
+            return Err(self.budget.over());
+        };
+        let end = turning.run_from(
+            self.alloc,
+            &self.context,
+            &mut self.scratch.memory.groups,
+            offset,
+        )?;
+        Ok(end)
+    }
+
     /// Searches from an offset on. It answers the offset from which the first run has an answer, and where that ends; the answer's
     /// groups are then held.
     fn search(&mut self, offset: usize) -> Result<Option<(usize, usize)>, B::Error>
@@ -154,8 +242,13 @@ impl<'r, Input: ExecutorInput, B: SearchBudget> Backtracker<'r, Input, B> {
         ensures found { IfOk result (λ found. IsFound (program_in self.old) (input_of (Input.view self.old.context.input)) offset found (groups_in self.new)) }
         ensures counted { IfOk result (λ _. CountsSearch (program_in self.old) (Input.view self.old.context.input) offset (B.left (budget_of self.old)) (B.left (budget_of self.new))) }
         ensures stopped { IfErr result (λ e. B.is_over e → (B.left (budget_of self.new) ≡ Some 0) × CountsSearch (program_in self.old) (Input.view self.old.context.input) offset (B.left (budget_of self.old)) (B.left (budget_of self.new))) }
+        ensures never { IfErr result (NeverOver B.is_over (turns_in self.old)) }
         ensures kept { self.new.context ≡ self.old.context }
+        ensures turns { turns_in self.new ≡ turns_in self.old }
     {
+        if self.has_turned() {
+            return self.search_told(offset);
+        }
         let ended = first_from(
             &self.context,
             &mut self.scratch,
@@ -165,7 +258,7 @@ impl<'r, Input: ExecutorInput, B: SearchBudget> Backtracker<'r, Input, B> {
         )?;
         match ended {
             Ended::With(found) => Ok(found),
-            Ended::TooManySteps => Err(self.budget.over()),
+            Ended::TooManySteps => self.search_told(offset),
         }
     }
 
@@ -175,8 +268,13 @@ impl<'r, Input: ExecutorInput, B: SearchBudget> Backtracker<'r, Input, B> {
         ensures answer { IfOk result (λ end. IsAnswer (program_in self.old) (input_of (Input.view self.old.context.input)) offset end (groups_in self.new)) }
         ensures counted { IfOk result (λ _. CountsRun (program_in self.old) (Input.view self.old.context.input) offset (B.left (budget_of self.old)) (B.left (budget_of self.new))) }
         ensures stopped { IfErr result (λ e. B.is_over e → (B.left (budget_of self.new) ≡ Some 0) × CountsRun (program_in self.old) (Input.view self.old.context.input) offset (B.left (budget_of self.old)) (B.left (budget_of self.new))) }
+        ensures never { IfErr result (NeverOver B.is_over (turns_in self.old)) }
         ensures kept { self.new.context ≡ self.old.context }
+        ensures turns { turns_in self.new ≡ turns_in self.old }
     {
+        if self.has_turned() {
+            return self.run_told(offset);
+        }
         let ended = run_from(
             &self.context,
             &mut self.scratch,
@@ -186,7 +284,7 @@ impl<'r, Input: ExecutorInput, B: SearchBudget> Backtracker<'r, Input, B> {
         )?;
         match ended {
             Ended::With(end) => Ok(end),
-            Ended::TooManySteps => Err(self.budget.over()),
+            Ended::TooManySteps => self.run_told(offset),
         }
     }
 
@@ -206,7 +304,9 @@ impl<'r, Input: ExecutorInput, B: SearchBudget> Backtracker<'r, Input, B> {
         ensures named { IfOk result (λ found. IfSome found (λ m. names_of_match m ≡ names_of self.old.context.program.now)) }
         ensures counted { IfOk result (λ _. CountsSearch (program_in self.old) (Input.view self.old.context.input) offset (B.left (budget_of self.old)) (B.left (budget_of self.new))) }
         ensures stopped { IfErr result (λ e. B.is_over e → (B.left (budget_of self.new) ≡ Some 0) × CountsSearch (program_in self.old) (Input.view self.old.context.input) offset (B.left (budget_of self.old)) (B.left (budget_of self.new))) }
+        ensures never { IfErr result (NeverOver B.is_over (turns_in self.old)) }
         ensures kept { self.new.context ≡ self.old.context }
+        ensures turns { turns_in self.new ≡ turns_in self.old }
     {
         let Some((start, end)) = self.search(offset)? else {
             return Ok(None);
@@ -238,7 +338,9 @@ impl<'r, Input: ExecutorInput, B: SearchBudget> Backtracker<'r, Input, B> {
         ensures untouched { OnErr result (slots.new ≡ slots.old) }
         ensures counted { IfOk result (λ _. CountsSearch (program_in self.old) (Input.view self.old.context.input) offset (B.left (budget_of self.old)) (B.left (budget_of self.new))) }
         ensures stopped { IfErr result (λ e. B.is_over e → (B.left (budget_of self.new) ≡ Some 0) × CountsSearch (program_in self.old) (Input.view self.old.context.input) offset (B.left (budget_of self.old)) (B.left (budget_of self.new))) }
+        ensures never { IfErr result (NeverOver B.is_over (turns_in self.old)) }
         ensures kept { self.new.context ≡ self.old.context }
+        ensures turns { turns_in self.new ≡ turns_in self.old }
     {
         let Some((start, end)) = self.search(offset)? else {
             return Ok(None);
@@ -263,7 +365,9 @@ impl<'r, Input: ExecutorInput, B: SearchBudget> Backtracker<'r, Input, B> {
         ensures named { IfOk result (λ found. IfSome found (λ m. names_of_match m ≡ names_of self.old.context.program.now)) }
         ensures counted { IfOk result (λ _. CountsRun (program_in self.old) (Input.view self.old.context.input) offset (B.left (budget_of self.old)) (B.left (budget_of self.new))) }
         ensures stopped { IfErr result (λ e. B.is_over e → (B.left (budget_of self.new) ≡ Some 0) × CountsRun (program_in self.old) (Input.view self.old.context.input) offset (B.left (budget_of self.old)) (B.left (budget_of self.new))) }
+        ensures never { IfErr result (NeverOver B.is_over (turns_in self.old)) }
         ensures kept { self.new.context ≡ self.old.context }
+        ensures turns { turns_in self.new ≡ turns_in self.old }
     {
         let Some(end) = self.run_at(offset)? else {
             return Ok(None);
@@ -292,7 +396,9 @@ impl<'r, Input: ExecutorInput, B: SearchBudget> Backtracker<'r, Input, B> {
         ensures untouched { OnErr result (slots.new ≡ slots.old) }
         ensures counted { IfOk result (λ _. CountsRun (program_in self.old) (Input.view self.old.context.input) offset (B.left (budget_of self.old)) (B.left (budget_of self.new))) }
         ensures stopped { IfErr result (λ e. B.is_over e → (B.left (budget_of self.new) ≡ Some 0) × CountsRun (program_in self.old) (Input.view self.old.context.input) offset (B.left (budget_of self.old)) (B.left (budget_of self.new))) }
+        ensures never { IfErr result (NeverOver B.is_over (turns_in self.old)) }
         ensures kept { self.new.context ≡ self.old.context }
+        ensures turns { turns_in self.new ≡ turns_in self.old }
     {
         let Some(end) = self.run_at(offset)? else {
             return Ok(None);
