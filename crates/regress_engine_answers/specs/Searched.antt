@@ -1,5 +1,5 @@
 -- What a search by a table of answers stands on.
-use Rattle.std.specs.Prelude.{◌≡◌, ◌+◌, ◌*◌, ◌≤◌, ℕ, suc, length, Option, Some, None}
+use Rattle.std.specs.Prelude.{◌≡◌, ◌+◌, ◌*◌, ◌≤◌, ℕ, length, Option, Some, None}
 use Rattle.regress_meaning.specs.Meaning.{Forward}
 use Rattle.regress_engine_input.specs.Views.{View}
 use Rattle.regress_engine_insn.specs.Instructions.{Program}
@@ -26,4 +26,5 @@ from_start start (Some end) = Some (start, end)
 abbrev pub StepsTo : LinearTable → View → (before after : ℕ) → Option (ℕ × ℕ) → Type 0
 StepsTo table v before after None = after ≡ before
 StepsTo table v before after (Some (start, end)) =
-    after + room (length v.units) Forward end * length (heights_in table).order ≤ before + suc (room (length v.units) Forward start) * length (heights_in table).order
+    after + room (length v.units) Forward end * length (heights_in table).order
+    ≤ before + room (length v.units) Forward start * length (heights_in table).order + length (heights_in table).order

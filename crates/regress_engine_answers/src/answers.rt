@@ -16,7 +16,7 @@ use regress_engine_advance::{advance, after_times};
 use regress_engine_code::CompiledRegex;
 use regress_engine_insn::Insn;
 use regress_engine_memory::Bits;
-use regress_engine_search::ExecutorInput;
+use regress_engine_search::{ExecutorInput, Shown};
 use regress_front_core::GroupData;
 use std::alloc::AllocError;
 
@@ -101,7 +101,8 @@ impl Answers {
 }
 
 /// A program and a text, whose answers are worked out.
-pub struct Answering<'a, Input> {
+#[derive(Debug, Drop)]
+pub struct Answering<'a, Input: Shown> {
     /// The program.
     pub(crate) program: &'a CompiledRegex,
     /// The text.

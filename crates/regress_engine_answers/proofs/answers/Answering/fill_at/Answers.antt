@@ -20,7 +20,7 @@ returns-then-not-is_due-clause-filled g c =
     let program = program_of c.args.self.now.program.now in
     let flow = flow_in c.args.table.now in
     let h = heights_in c.args.table.now in
-    let at = c.address-at.result.now in
+    let at = c.address-at.result in
     let here : slice_get h.order c.args.rank ≡ Some at = c.address-at.ensures in
     skipped flow h v all program c.requires.suits c.requires.linear c.requires.short c.args.answers.now c.args.forward c.args.rank c.args.offset c.requires.filled
     (λ b due. absurd (c.is_due.ensures.other c.if-not-is_due.true
@@ -33,7 +33,7 @@ instruction-requires g c =
     let program = program_of c.args.self.now.program.now in
     let flow = flow_in c.args.table.now in
     let h = heights_in c.args.table.now in
-    due-stands flow h v all program c.requires.suits c.requires.linear c.requires.short c.args.forward c.args.rank c.address-at.result.now (c.is_due.ensures.due c.if-not-is_due.false)
+    due-stands flow h v all program c.requires.suits c.requires.linear c.requires.short c.args.forward c.args.rank c.address-at.result (c.is_due.ensures.due c.if-not-is_due.false)
 
 pub returns-then-reads_character-clause-filled : goal.returns-then-reads_character-clause-filled
 returns-then-reads_character-clause-filled g c =
@@ -42,7 +42,7 @@ returns-then-reads_character-clause-filled g c =
     let program = program_of c.args.self.now.program.now in
     let flow = flow_in c.args.table.now in
     let h = heights_in c.args.table.now in
-    let at = c.address-at.result.now in
+    let at = c.address-at.result in
     let here : slice_get h.order c.args.rank ≡ Some at = c.address-at.ensures in
     skipped flow h v all program c.requires.suits c.requires.linear c.requires.short c.args.answers.now c.args.forward c.args.rank c.args.offset c.requires.filled
     (λ b due.
@@ -58,7 +58,7 @@ work_at-requires-clause-stands g c =
     let program = program_of c.args.self.now.program.now in
     let flow = flow_in c.args.table.now in
     let h = heights_in c.args.table.now in
-    due-stands flow h v all program c.requires.suits c.requires.linear c.requires.short c.args.forward c.args.rank c.address-at.result.now (c.is_due.ensures.due c.if-not-is_due.false)
+    due-stands flow h v all program c.requires.suits c.requires.linear c.requires.short c.args.forward c.args.rank c.address-at.result (c.is_due.ensures.due c.if-not-is_due.false)
 
 pub work_at-requires-clause-calm : goal.work_at-requires-clause-calm
 work_at-requires-clause-calm g c i here =
@@ -67,7 +67,7 @@ work_at-requires-clause-calm g c i here =
     let program = program_of c.args.self.now.program.now in
     let flow = flow_in c.args.table.now in
     let h = heights_in c.args.table.now in
-    unreferring-there flow h v all program c.requires.suits c.requires.linear c.requires.short c.address-at.result.now i here
+    unreferring-there flow h v all program c.requires.suits c.requires.linear c.requires.short c.address-at.result i here
 
 pub work_at-requires-clause-exits : goal.work_at-requires-clause-exits
 work_at-requires-clause-exits g c =
@@ -77,7 +77,7 @@ work_at-requires-clause-exits g c =
     let flow = flow_in c.args.table.now in
     let h = heights_in c.args.table.now in
     let due = c.is_due.ensures.due c.if-not-is_due.false in
-    exits-known flow h v all program c.requires.suits c.requires.linear c.requires.short c.args.answers.now c.args.forward c.args.rank c.args.offset c.requires.filled c.address-at.result.now
+    exits-known flow h v all program c.requires.suits c.requires.linear c.requires.short c.args.answers.now c.args.forward c.args.rank c.args.offset c.requires.filled c.address-at.result
     due.2 due.1 c.requires.lies due.0
 
 pub returns-clause-filled : goal.returns-clause-filled
@@ -87,7 +87,7 @@ returns-clause-filled g c =
     let program = program_of c.args.self.now.program.now in
     let flow = flow_in c.args.table.now in
     let h = heights_in c.args.table.now in
-    let at = c.address-at.result.now in
+    let at = c.address-at.result in
     let due = c.is_due.ensures.due c.if-not-is_due.false in
     let (i, stands) = due-stands flow h v all program c.requires.suits c.requires.linear c.requires.short c.args.forward c.args.rank at due in
     let here : slice_get h.order c.args.rank ≡ Some at = c.address-at.ensures in
