@@ -360,7 +360,7 @@ module _ (flow : Flow) (h : Heights) (v : View) (all : AreOfKind v.kind v.units)
                 λ least most greedy i here there place.
                     exits-are at o ∙ bit-here at o (exits_by a at o) exit fresh.1 ∙ exits least most greedy i here there place
                     ∙ subst (λ d. one_beyond told program v dir at i o ≡ one_beyond (told_by a') program v (direction_of d) at i o) (sym way)
-                        (sym (behind-same i (takes least most greedy i here there place) dir refl at o (omega arith))),
+                    (sym (behind-same i (takes least most greedy i here there place) dir refl at o (omega arith))),
               )
 
           right : (b q : ℕ) → b < length h.ranks → forward_at h b ≡ forward → q ≤ last → IsPast flow h program v forward (suc k) o b q

@@ -1,5 +1,5 @@
 //! Budgets of searches.
-ghost use Rattle.std.specs.Prelude.{◌≡◌, Some, alloc_error};
+ghost use Rattle.std.specs.Prelude.{◌≡◌, Some, None, IfSome, alloc_error};
 
 use crate::error::SearchError;
 use regress_engine_search::{Budget, StepsLeft, Unbounded};
@@ -13,16 +13,14 @@ pub trait SearchBudget: Budget + Copy {
     // the error says that no more steps may be counted
     ghost is_over: { Self.Error → Type 0 };
 
-    /// The error of a search where no more steps may be counted.
-    ///
-    /// Asks that it is so.
+    /// The error of a search where no more steps may be counted; `None` where any number may.
     ///
     /// ```rust
     /// let error = budget.over();
     /// ```
-    fn over(&self) -> Self::Error
-        requires { Self.left self.now ≡ Some 0 }
-        ensures { is_over result };
+    fn over(&self) -> Option<Self::Error>
+        ensures over { IfSome result is_over }
+        ensures none { result ≡ None → Self.left self.now ≡ Some 0 → ⊥ };
 
     // that memory is refused says something else
     ghost refused: { (e : Self.Error) → Self.Error.from_gives alloc_error e → is_over e → ⊥ };
@@ -34,8 +32,8 @@ impl SearchBudget for Unbounded {
     ghost is_over = { λ _. ⊥ };
 
     #[inline]
-    fn over(&self) -> AllocError {
-        unreachable!()
+    fn over(&self) -> Option<AllocError> {
+        None
     }
 
     ghost refused = { λ e from over. over };
@@ -50,8 +48,8 @@ impl SearchBudget for StepsLeft {
     ghost is_over = { λ e. e ≡ TooManySteps };
 
     #[inline]
-    fn over(&self) -> SearchError {
-        SearchError::TooManySteps
+    fn over(&self) -> Option<SearchError> {
+        Some(SearchError::TooManySteps)
     }
 
     ghost refused = { Prim.search rules };

@@ -170,9 +170,9 @@ impl<'r, Input: ExecutorInput, B: SearchBudget> Backtracker<'r, Input, B> {
     /// ```
     pub fn with_linear(mut self, table: &'r LinearTable) -> Self
         requires linear { IsLinear (flow_in table.now) (heights_in table.now) (program_in self) }
-        ensures searched { search_in result ≡ search_in self }
-        ensures budget { budget_of result ≡ budget_of self }
-        ensures turns { turns_in result ≡ (fits_told table.now (length (search_in self).view.units) || turns_in self) }
+        ensures searched { search_in result ≡ search_in self.entry }
+        ensures budget { budget_of result ≡ budget_of self.entry }
+        ensures turns { turns_in result ≡ (fits_told table.now (length (search_in self.entry).view.units) || turns_in self.entry) }
     {
         if fits_told(table, self.context.text_len()) {
             self.turning = Some(Turning { table, told: None });
@@ -190,6 +190,17 @@ impl<'r, Input: ExecutorInput, B: SearchBudget> Backtracker<'r, Input, B> {
         }
     }
 
+    /// The error of a search where no more steps may be counted.
+    fn too_many_steps(&self) -> B::Error
+        requires { B.left (budget_of self.now) ≡ Some 0 }
+        ensures { B.is_over result }
+    {
+        match self.budget.over() {
+            Some(error) => error,
+            None => unreachable!(),
+        }
+    }
+
     /// Searches from an offset on by tables, if it turns to them; else no more steps may be counted, and it errs since there would be too
     /// many. It answers as `search` does.
     fn search_told(&mut self, offset: usize) -> Result<Option<(usize, usize)>, B::Error>
@@ -202,7 +213,7 @@ impl<'r, Input: ExecutorInput, B: SearchBudget> Backtracker<'r, Input, B> {
         ensures turns { turns_in self.new ≡ turns_in self.old }
     {
         let Some(turning) = &mut self.turning else {
-            return Err(self.budget.over());
+            return Err(self.too_many_steps());
         };
         let found = turning.first_from(
             self.alloc,
@@ -224,7 +235,7 @@ impl<'r, Input: ExecutorInput, B: SearchBudget> Backtracker<'r, Input, B> {
         ensures turns { turns_in self.new ≡ turns_in self.old }
     {
         let Some(turning) = &mut self.turning else {
-            return Err(self.budget.over());
+            return Err(self.too_many_steps());
         };
         let end = turning.run_from(
             self.alloc,

@@ -104,10 +104,10 @@ module _ (v : View) (all : AreOfKind v.kind v.units) where
         place = (p, low, is);
         order = omega arith;
         none = λ m (k, low', at) more. absurd (
-          let after = before reading told.rise p k low (omega (arith, at, is, more)) in
-          let x = sym here ∙ slice_get-get_or reading.points p 0 (omega (arith, after, low')) in
-          cc x
-        );
+            let after = before reading told.rise p k low (omega (arith, at, is, more)) in
+            let x = sym here ∙ slice_get-get_or reading.points p 0 (omega (arith, after, low')) in
+            cc x
+            );
       }
 
   -- ---- the place that is awaited, offset by offset

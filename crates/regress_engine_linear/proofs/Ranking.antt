@@ -85,9 +85,9 @@ module _ (h : Heights) (t : Table) where
         way = read.1;
         rank = elim (or_cases (is_read h (forward_at h at) (suc at) && nat_lt (rank_at h (suc at)) (rank_at h at)) (forward_at h at && not (forward_at h (suc at))) both.1) [
           | inl lower ↦ inl (
-            let two = and_parts (is_read h (forward_at h at) (suc at)) (nat_lt (rank_at h (suc at)) (rank_at h at)) lower in
-            ((read-so (forward_at h at) (suc at) two.0).1, ltb-true (rank_at h (suc at)) (rank_at h at) two.1)
-          )
+              let two = and_parts (is_read h (forward_at h at) (suc at)) (nat_lt (rank_at h (suc at)) (rank_at h at)) lower in
+              ((read-so (forward_at h at) (suc at) two.0).1, ltb-true (rank_at h (suc at)) (rank_at h at) two.1)
+              )
           | inr turned ↦ inr (let two = and_parts (forward_at h at) (not (forward_at h (suc at))) turned in (two.0, not-so (forward_at h (suc at)) two.1))
         ];
       }

@@ -35,8 +35,7 @@ fn may_stand(insn: &Insn) -> bool
             max_iters,
             ..
         } => {
-            *min_iters <= MOST_REPEATS
-                && (is_unbounded(*max_iters) || *max_iters <= MOST_REPEATS)
+            *min_iters <= MOST_REPEATS && (is_unbounded(*max_iters) || *max_iters <= MOST_REPEATS)
         }
         Insn::Lookahead {
             negate,
@@ -136,7 +135,11 @@ impl LinearTable {
     /// ```rust
     /// let table = LinearTable::of(alloc, program.insns(), program.loops() as usize)?;
     /// ```
-    pub fn of(alloc: Global, insns: &[Insn], loops: usize) -> Result<Option<LinearTable>, AllocError>
+    pub fn of(
+        alloc: Global,
+        insns: &[Insn],
+        loops: usize,
+    ) -> Result<Option<LinearTable>, AllocError>
         ensures { IfOk result (λ found. IfSome found (λ table. (program : Program) → program.instructions ≡ map instruction insns.now
             → IsLinear (flow_of (table_of table.flow)) (heights_of table.ranks) program)) }
     {
