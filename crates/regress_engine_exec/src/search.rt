@@ -51,7 +51,8 @@ pub struct Backtracker<'r, Input: Shown, B> {
 pub type BacktrackExecutor<'r, Input> = Backtracker<'r, Input, Unbounded>;
 
 /// Finds the matches of a program in a text, as `BacktrackExecutor` does, in so many steps for all its searches. A search that would
-/// take more errs with `TooManySteps`: only where its runs take at least as many steps as were left, counted as below.
+/// take more errs with `TooManySteps`: only where its runs take at least as many steps as were left, counted as below. Or it goes on by a
+/// table, where the executor turns to one (`with_linear`).
 ///
 /// A step does the instruction of one state, or drops the state, and one more is counted for each 64 units that a one-character loop
 /// passes over. What looks for the next place where a match may begin is not counted.
@@ -163,10 +164,7 @@ impl<'r, Input: ExecutorInput, B: SearchBudget> Backtracker<'r, Input, B> {
     /// Asks that the program is linear, as its table says.
     ///
     /// ```rust
-    /// let mut executor = Backtracker::with_budget(alloc, &program, input, scratch, StepsLeft(1_000_000));
-    /// if let Some(table) = &table {
-    ///     executor = executor.with_linear(table);
-    /// }
+    /// let mut executor = executor.with_linear(&table);
     /// ```
     pub fn with_linear(mut self, table: &'r LinearTable) -> Self
         requires linear { IsLinear (flow_in table.now) (heights_in table.now) (program_in self) }
@@ -176,6 +174,7 @@ impl<'r, Input: ExecutorInput, B: SearchBudget> Backtracker<'r, Input, B> {
     {
         if fits_told(table, self.context.text_len()) {
             self.turning = Some(Turning { table, told: None });
+            return self;
         }
         self
     }
