@@ -1,10 +1,10 @@
 -- What an executor turns to is so where some proof of it is kept, and by tables nothing is counted.
 use mathlib.Core.HLevel.{Π_prop, ×_prop, Σ_prop_path, Unit-prop}
 use Rattle.std.specs.Coded.{codes, le_prop}
-use Rattle.std.specs.Prelude.{IfSome, List, is_some, nat_lt, Result, Ok, Err, IfOk}
+use Rattle.std.specs.Prelude.{IfSome, List, is_some, Result, Ok, Err, IfOk}
 use Rattle.std.proofs.Common.{◌≡◌, ℕ, suc, ◌^◌, ◌-◌, ◌<◌, ◌≤◌, ◌⊎◌, inl, inr, Bool, true, false, [], ◌∷◌, length, Option, Some, None, refl, sym, ◌∙◌, subst, arith}
 use Rattle.std.proofs.Math.Logic.{∥∥₁_elim, ∥∥₁_map}
-use Rattle.std.proofs.lemmas.Bool.{and_parts, cases_lt, ltb-true}
+use Rattle.std.proofs.lemmas.Bool.{cases_lt}
 use Rattle.regress_meaning.specs.Meaning.{Direction}
 use Rattle.regress_meaning.specs.Inputs.{Input}
 use Rattle.regress_front_nodes.specs.Trees.{Submatch, lookaround, atomic}
@@ -32,7 +32,7 @@ use Rattle.regress_engine_answers.specs.declared.searching.TextTable.{TextTable}
 use Rattle.regress_engine_attempt.specs.Counting.{most_counted, CountsRun}
 use Rattle.regress_engine_attempt.proofs.CountLemmas.{spends-none, spends-more}
 use Rattle.regress_engine_exec.specs.Counting.{CountsSearch}
-use Rattle.regress_engine_exec.specs.Turned.{Turns, fits_told}
+use Rattle.regress_engine_exec.specs.Turned.{Turns}
 use Rattle.regress_engine_exec.specs.declared.turning.Turning.{Turning}
 use Rattle.regress_engine_exec.proofs.CountLemmas.{counts-first, counts-over}
 
@@ -299,13 +299,6 @@ run-spends program v searchable at place b =
       computed-runs program (input_of v) (suc ends.0.0) _ _ ends.0.0 ends.0.1 (ends.1 (suc ends.0.0) (omega arith)),
       spends-more b b 0 (most_counted v ends.0.0) (omega arith) (spends-none b),
     )
-
--- where the table takes no more room than it may, it is turned to
-pub turns-begun : (program : Program) (v : View) (t : Turning) → t.told ≡ None → IsLinear (flow_in t.table.now) (heights_in t.table.now) program
-    → fits_told t.table.now (length v.units) ≡ true → Turns program v t
-turns-begun program v t none linear fits =
-    let less = ltb-true (length v.units) (2 ^ 64 - 2) (and_parts (nat_lt (length v.units) (2 ^ 64 - 2)) _ fits).0 in
-    record { linear = linear; short = omega (arith, less); told = subst (λ (o : Option TextTable). IfSome o (IsTold t.table.now program v)) (sym none) tt }
 
 -- what is known anyway is known of a result
 pub if-found : {T E X : Type 0} (r : Result T E) → X → IfOk r (λ _. X)
