@@ -1,8 +1,8 @@
 -- What an executor turns to is so where some proof of it is kept, and by tables nothing is counted.
-use mathlib.Core.HLevel.{Π_prop, ×_prop, Σ_prop_path, Unit-prop}
+use mathlib.Core.HLevel.{Π_prop, ×_prop, Σ_prop_path}
 use Rattle.std.specs.Coded.{codes, le_prop}
 use Rattle.std.specs.Prelude.{IfSome, List, is_some, Result, Ok, Err, IfOk}
-use Rattle.std.proofs.Common.{◌≡◌, ℕ, suc, ◌^◌, ◌-◌, ◌<◌, ◌≤◌, ◌⊎◌, inl, inr, Bool, true, false, [], ◌∷◌, length, Option, Some, None, refl, sym, ◌∙◌, subst, arith}
+use Rattle.std.proofs.Common.{◌≡◌, ℕ, suc, ◌^◌, ◌-◌, ◌<◌, ◌≤◌, ◌⊎◌, inl, inr, Bool, true, false, [], ◌∷◌, Option, Some, None, refl, sym, ◌∙◌, subst, arith}
 use Rattle.std.proofs.Math.Logic.{∥∥₁_elim, ∥∥₁_map}
 use Rattle.std.proofs.lemmas.Bool.{cases_lt}
 use Rattle.regress_meaning.specs.Meaning.{Direction}
