@@ -164,7 +164,7 @@ impl<'r, Input: ExecutorInput, B: SearchBudget> Backtracker<'r, Input, B> {
     /// Asks that the program is linear, as its table says.
     ///
     /// ```rust
-    /// let mut executor = executor.with_linear(&table);
+    /// let mut linear = executor.with_linear(&table);
     /// ```
     pub fn with_linear(mut self, table: &'r LinearTable) -> Self
         requires linear { IsLinear (flow_in table.now) (heights_in table.now) (program_in self) }
