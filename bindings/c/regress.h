@@ -176,6 +176,8 @@ int32_t regress_raw_compile_units_within(const uint16_t *pattern, size_t length,
 int32_t regress_raw_compile_whole_within(const uint8_t *pattern, size_t length, const uint8_t *flags, size_t flags_length,
                                          size_t limit, regress_tables *tables, regress_pattern *out, regress_error *error);
 int32_t regress_raw_pattern_text(regress_pattern *pattern, uint8_t *buffer, size_t room, size_t *written);
+int32_t regress_raw_is_linear(regress_pattern *pattern);
+int32_t regress_raw_linear_steps(regress_pattern *pattern, size_t length, size_t *steps);
 int32_t regress_raw_group_count(regress_pattern *pattern);
 int32_t regress_raw_group_name(regress_pattern *pattern, size_t number, uint8_t *buffer, size_t room, size_t *written);
 int32_t regress_raw_group_numbers(regress_pattern *pattern, const uint8_t *name, size_t length, size_t *numbers, size_t room);
@@ -393,6 +395,28 @@ static inline int32_t regress_pattern_text(regress_pattern *pattern, char *buffe
   return pattern == NULL || to == NULL || written == NULL ? REGRESS_NULL : regress_raw_pattern_text(pattern, to, room, written);
 }
 
+/* Answers 1 where the pattern is known to be linear, and else 0. A search of such a pattern to which regress_search_set_max_steps gives as
+ * many steps as regress_linear_steps tells has enough of them, whatever the text is. A search without a bound goes no other way for it.
+ *
+ * A pattern is linear that has no back reference; whose repetitions have no greatest number, or 1, and a least number of 0 or 1, or are
+ * of one character and have numbers up to 256; in which nothing that may be empty is repeated; and whose lookarounds hold no groups or are
+ * negated, with no lookahead inside a lookbehind. It has at most 65,536 instructions, and no atomic group. Where memory for the tables
+ * was refused it isn't known to be. The caller keeps: no other call has the handle. */
+static inline int32_t regress_is_linear(regress_pattern *pattern) {
+  return pattern == NULL ? REGRESS_NULL : regress_raw_is_linear(pattern);
+}
+
+/* Writes to `steps` how many steps are enough for each search in a text of `length` bytes or units, or of fewer: a search of the pattern
+ * to which regress_search_set_max_steps gives so many or more never ends in REGRESS_TOO_MANY_STEPS there. Once it has taken them it goes
+ * on by a table of the text, of a bit for each instruction of the program at each offset.
+ *
+ * It writes SIZE_MAX where the pattern isn't known to be linear, and where the table of such a text would take more than 64 MB. That is no
+ * number of steps: it would take the bound away. The caller keeps: `steps` points to a number that lies in no other argument, and no other
+ * call has the handle. */
+static inline int32_t regress_linear_steps(regress_pattern *pattern, size_t length, size_t *steps) {
+  return pattern == NULL || steps == NULL ? REGRESS_NULL : regress_raw_linear_steps(pattern, length, steps);
+}
+
 /* Answers how many capturing groups the pattern has. A match has one range more, that of the whole match. The caller keeps: no other
  * call has the handle. */
 static inline int32_t regress_group_count(regress_pattern *pattern) {
@@ -480,6 +504,9 @@ static inline int32_t regress_search_new(regress_pattern *pattern, regress_searc
  * A step does the instruction of one state of the pattern's program, or drops the state. One more is counted for each 64 bytes or
  * units that a class passes over or that a back reference compares. Looking for the next place where a match may begin is not counted.
  * No clock plays a part: in one version of the library the same search stops at the same step everywhere.
+ *
+ * Where regress_is_linear answers 1, a search with as many steps as regress_linear_steps tells, or more, never ends in
+ * REGRESS_TOO_MANY_STEPS.
  *
  * The bound is the handle's alone: another search of the same pattern has its own, and calls that take a pattern have none. The
  * caller keeps: no other call has the search. */

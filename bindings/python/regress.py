@@ -92,6 +92,8 @@ _compile_whole = _call("compile_whole_within", *_source)
 _compile_units = _call("compile_units_within", *_source)
 _search_new = _call("search_new", _HandleOut, _HandleOut)
 _search_set_max_steps = _call("search_set_max_steps", _HandleOut, _Size)
+_is_linear = _call("is_linear", _HandleOut)
+_linear_steps = _call("linear_steps", _HandleOut, _Size, _SizeOut)
 _group_count = _call("group_count", _HandleOut)
 _group_name = _call("group_name", _HandleOut, _Size, *_copy)
 _replace = _call("replace", _HandleOut, _Bytes, _Size, _Bytes, _Size, *_copy)
@@ -381,6 +383,37 @@ class Pattern:
             if name:
                 names.setdefault(name, []).append(number)
         return names
+
+    @property
+    def linear(self):
+        """Whether the pattern is known to be linear: a search with as many `max_steps` as `linear_steps` tells has enough of them, whatever
+        the string is. A search without a bound goes no other way for it.
+
+        A pattern is linear that has no back reference; whose repetitions have no greatest number, or 1, and a least number of 0 or 1,
+        or are of one character and have numbers up to 256; in which nothing that may be empty is repeated; and whose lookarounds hold no
+        groups or are negated, with no lookahead inside a lookbehind. It has at most 65,536 instructions, and no atomic group. Where
+        memory for the tables was refused it isn't known to be.
+        """
+        code = _is_linear(self._compiled)
+        _check(code)
+        return code == 1
+
+    def linear_steps(self, length):
+        """How many steps are enough for each search, but for those of `fullmatch`, in a string of so many bytes in UTF-8, or of fewer: with
+        so many `max_steps`, or more, none raises `TooManySteps` there. A string has at most four bytes for each character; one with
+        halves of pairs counts by its 16-bit units. The program of `fullmatch` has the ends of the text too, and takes more.
+
+        None where the pattern isn't known to be linear, and where the table of such a string would take more than 64 MB, a bit for each
+        instruction of the program at each offset.
+
+            >>> source = r"^(\\w|\\w\\w)*!$"
+            >>> steps = regress.compile(source).linear_steps(4 * 42) or 1_000_000
+            >>> regress.compile(source, max_steps=steps).search("a" * 40 + "?!") is None
+            True
+        """
+        steps = ctypes.c_size_t()
+        _check(_linear_steps(self._compiled, min(_index(length, "a length"), _UNSET), steps))
+        return None if steps.value == _UNSET else steps.value
 
     def __reduce__(self):
         return compile, (self.pattern, self.flags, self.limit, self.max_steps)

@@ -141,6 +141,36 @@ static void asking(void) {
   regress_free(&named);
 }
 
+/* Whether a pattern is known to be linear, and how many steps are enough in a text of 5,000 letters. */
+static int32_t linear(const char *source, size_t *steps) {
+  regress_pattern asked = {0};
+  CHECK(regress_compile(source, strlen(source), "", &tables, &asked, NULL) == REGRESS_OK);
+  CHECK(regress_linear_steps(&asked, 5000, steps) == REGRESS_OK);
+  int32_t known = regress_is_linear(&asked);
+  regress_free(&asked);
+  return known;
+}
+
+static void asking_linear(void) {
+  static const char *const linear_ones[] = {"(a|ab)*c", "a{3,9}b", "(?<!a)b", "(?!(a)b)[^]", "", "^(\\w|\\w\\w)*!$"};
+  static const char *const others[] = {"(a)\\1", "(?:ab){2,3}", "(?:a*)*b", "(?=(a))b", "(?<=(?=a)a)b", "(?>a)b", "[^]{257}"};
+  regress_handle nothing = {0}, ab = {0};
+  size_t steps = 7, fewer;
+  CHECK(regress_compile(TEXT("(a|ab)*c"), "", &tables, &ab, NULL) == REGRESS_OK);
+  CHECK(regress_linear_steps(&ab, 10, &fewer) == REGRESS_OK && fewer > 10 && fewer < 10000);
+  CHECK(regress_linear_steps(&ab, 11, &steps) == REGRESS_OK && steps > fewer);
+  CHECK(regress_linear_steps(&ab, (size_t)1 << 30, &steps) == REGRESS_OK && steps == SIZE_MAX);
+  CHECK(regress_linear_steps(&ab, SIZE_MAX, &steps) == REGRESS_OK && steps == SIZE_MAX);
+  for (size_t k = 0; k < sizeof linear_ones / sizeof *linear_ones; k++) CHECK(linear(linear_ones[k], &steps) == 1 && steps < 10000000);
+  for (size_t k = 0; k < sizeof others / sizeof *others; k++) CHECK(linear(others[k], &steps) == 0 && steps == SIZE_MAX);
+  steps = 7;
+  CHECK(regress_is_linear(&search) == REGRESS_WRONG_HANDLE && regress_is_linear(NULL) == REGRESS_NULL);
+  CHECK(regress_linear_steps(&nothing, 10, &steps) == REGRESS_WRONG_HANDLE && steps == 7);
+  CHECK(regress_linear_steps(NULL, 10, &steps) == REGRESS_NULL && steps == 7);
+  CHECK(regress_linear_steps(&ab, 10, NULL) == REGRESS_NULL);
+  regress_free(&ab);
+}
+
 static void replacing(void) {
   char buffer[16];
   size_t written = 99;
@@ -256,6 +286,48 @@ static void bounding(void) {
   regress_free(&list);
 }
 
+/* A search of a linear pattern that has as many steps as are enough ends; one with half as many does not, and neither does one of a
+ * pattern that isn't linear. */
+static void bounding_linear(void) {
+  static char letters[5000];
+  static uint16_t in_units[5000];
+  regress_pattern linear = {0}, other = {0};
+  regress_search bounded = {0};
+  regress_range ranges[2] = {{7, 7}, {7, 7}};
+  size_t steps = 0;
+  for (size_t k = 0; k < 5000; k++) in_units[k] = letters[k] = k % 2 == 0 ? 'a' : 'b';
+  CHECK(regress_compile(TEXT("(a|ab)*c"), "", &tables, &linear, NULL) == REGRESS_OK);
+  CHECK(regress_linear_steps(&linear, 5000, &steps) == REGRESS_OK);
+  CHECK(regress_search_new(&linear, &bounded) == REGRESS_OK);
+  CHECK(regress_search_set_max_steps(&bounded, steps) == REGRESS_OK);
+  CHECK(regress_find(&bounded, letters, 5000, 0, ranges, 2) == 0 && is_untouched(ranges, 2));
+  CHECK(regress_match_at(&bounded, letters, 5000, 0, ranges, 2) == 0);
+  CHECK(regress_is_match(&bounded, letters, 4999, 1) == 0);
+  CHECK(regress_is_match_utf16(&bounded, in_units, 5000, 0) == 0);
+  letters[4999] = 'c';
+  in_units[4999] = 'c';
+  CHECK(regress_find(&bounded, letters, 5000, 0, ranges, 2) == 2 && ranges[0].start == 0 && ranges[0].end == 5000);
+  CHECK(ranges[1].start == 4998 && ranges[1].end == 4999);
+  CHECK(regress_find_ucs2(&bounded, in_units, 5000, 1, ranges, 2) == 2 && ranges[0].start == 2);
+  letters[4999] = 'b';
+  CHECK(regress_search_set_max_steps(&bounded, steps / 2) == REGRESS_OK);
+  CHECK(regress_find(&bounded, letters, 5000, 0, ranges, 2) == REGRESS_TOO_MANY_STEPS);
+  size_t fewest;
+  CHECK(regress_compile(TEXT("(?:ab?)*c"), "", &tables, &other, NULL) == REGRESS_OK); /* which needs the table there */
+  CHECK(regress_linear_steps(&other, 5000, &fewest) == REGRESS_OK && regress_search_new(&other, &bounded) == REGRESS_OK);
+  CHECK(regress_search_set_max_steps(&bounded, fewest - 1) == REGRESS_OK);
+  CHECK(regress_find(&bounded, letters, 5000, 0, ranges, 2) == REGRESS_TOO_MANY_STEPS);
+  CHECK(regress_search_set_max_steps(&bounded, fewest) == REGRESS_OK);
+  CHECK(regress_find(&bounded, letters, 5000, 0, ranges, 2) == 0);
+  CHECK(regress_compile(TEXT("(?:(a)\\1|a|ab)*c"), "", &tables, &other, NULL) == REGRESS_OK);
+  CHECK(regress_search_new(&other, &bounded) == REGRESS_OK);
+  CHECK(regress_search_set_max_steps(&bounded, steps) == REGRESS_OK);
+  CHECK(regress_find(&bounded, letters, 5000, 0, ranges, 2) == REGRESS_TOO_MANY_STEPS);
+  regress_free(&bounded);
+  regress_free(&linear);
+  regress_free(&other);
+}
+
 static void empty_matches(void) {
   regress_pattern empty = {0};
   regress_search of_empty = {0};
@@ -279,10 +351,12 @@ int main(void) {
   compiling();
   compiling_within();
   asking();
+  asking_linear();
   replacing();
   searching();
   finding_many();
   bounding();
+  bounding_linear();
   empty_matches();
   regress_free(&search);
   regress_free(&pattern);

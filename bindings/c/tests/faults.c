@@ -243,9 +243,13 @@ static void asking(void) {
   size_t numbers[1] = {MARK};
   trying = "asking";
   for (size_t k = 0; k < COUNT(wrong); k++) {
+    CHECK(regress_is_linear(wrong[k]) == REGRESS_WRONG_HANDLE);
+    CHECK(regress_linear_steps(wrong[k], 5, numbers) == REGRESS_WRONG_HANDLE);
     CHECK(regress_group_count(wrong[k]) == REGRESS_WRONG_HANDLE);
     CHECK(regress_group_numbers(wrong[k], "n", 1, numbers, 1) == REGRESS_WRONG_HANDLE);
   }
+  CHECK(regress_is_linear(NULL) == REGRESS_NULL);
+  CHECK(regress_linear_steps(NULL, 5, numbers) == REGRESS_NULL && regress_linear_steps(&pattern, 5, NULL) == REGRESS_NULL);
   CHECK(regress_group_count(NULL) == REGRESS_NULL);
   CHECK(regress_group_numbers(NULL, "n", 1, numbers, 1) == REGRESS_NULL);
   CHECK(regress_group_numbers(&pattern, NULL, 1, numbers, 1) == REGRESS_NULL);

@@ -53,6 +53,8 @@ static int32_t numbers(void) {
   size_t number;
   return regress_group_numbers(&pattern, "word", 4, &number, 1) == 1 ? REGRESS_OK : REGRESS_NO_GROUP;
 }
+static int32_t is_linear(void) { return regress_is_linear(&pattern); }
+static int32_t linear_steps(void) { return regress_linear_steps(&pattern, 100, &written); }
 static int32_t replace(void) { return regress_replace(&pattern, "abc-x1", 6, "<$<word>>", 9, buffer, sizeof buffer, &written); }
 static int32_t replace_all(void) { return regress_replace_all(&pattern, "abc-x1", 6, "<$1>", 4, buffer, sizeof buffer, &written); }
 static int32_t escape(void) { return regress_escape("a.b", 3, buffer, sizeof buffer, &written); }
@@ -65,6 +67,7 @@ static const struct {
 } calls[] = {{"tables_small", make_tables, 1}, {"compile", compile, 1},         {"compile_whole", compile_whole, 1},
              {"compile_units", compile_units, 1}, {"compile_within", compile_within, 1}, {"share", share, 1},          {"search_new", make_search, 1},
              {"pattern_text", text_of, 0},     {"group_name", name, 0},         {"group_numbers", numbers, 0},
+             {"is_linear", is_linear, 0},      {"linear_steps", linear_steps, 0},
              {"replace", replace, 1},          {"replace_all", replace_all, 1}, {"escape", escape, 1}};
 
 /* Grants a call so many requests: answers whether it asked for more. */

@@ -106,11 +106,11 @@ static void make(void) {
 
 static void ask(void) {
   char buffer[24];
-  size_t written = 0, room = below(25), numbers[3];
+  size_t written = 0, room = below(25), numbers[3], steps = 1;
   const char *text = texts[below(9)];
   regress_handle *pattern = any_handle(PATTERN);
   int32_t code;
-  switch (below(8)) {
+  switch (below(10)) {
     case 0: code = regress_group_name(pattern, below(4), buffer, room, &written); break;
     case 1: code = regress_group_numbers(pattern, "n", below(2), numbers, below(4)); break;
     case 2: code = regress_replace(pattern, text, strlen(text), "<$&$1>", 6, buffer, room, &written); break;
@@ -118,9 +118,11 @@ static void ask(void) {
     case 4: code = regress_escape(text, strlen(text), buffer, room, &written); break;
     case 5: code = regress_error_text(-(int32_t)below(21), buffer, room, &written); break;
     case 6: code = regress_group_count(pattern); break;
+    case 7: code = regress_is_linear(pattern); break;
+    case 8: code = regress_linear_steps(pattern, below(40), &steps); break;
     default: code = regress_pattern_text(pattern, buffer, room, &written);
   }
-  CHECK(code >= REGRESS_PAST_LIMIT && code <= 1 && (code != REGRESS_OK || written <= room));
+  CHECK(code >= REGRESS_PAST_LIMIT && code <= 1 && (code != REGRESS_OK || written <= room) && steps > 0);
 }
 
 int main(int count, char **words) {

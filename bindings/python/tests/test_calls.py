@@ -170,6 +170,19 @@ class Patterns(unittest.TestCase):
         self.assertTrue(regress.fullmatch(r"\p{L}+", "héλ", "u"))
         self.assertTrue(regress.search("a", "a", "dgy"))
 
+    def test_linear(self):
+        for source in ("(a|ab)*c", "a{3,9}b", "(?<!a)b", ""):
+            self.assertIs(regress.compile(source).linear, True, source)
+        other = regress.compile(r"(a)\1")
+        self.assertEqual((other.linear, other.linear_steps(10)), (False, None))
+        linear = regress.compile("(a|ab)*c")
+        self.assertIn(linear.linear_steps(10), range(11, linear.linear_steps(11)))
+        self.assertLess(linear.linear_steps(11), 10_000)
+        self.assertEqual((linear.linear_steps(2**30), linear.linear_steps(2**70)), (None, None))
+        for length, raised in [(-1, ValueError), (1.5, TypeError), ("9", TypeError)]:
+            with self.assertRaises(raised):
+                linear.linear_steps(length)
+
     def test_texts_of_another_type(self):
         with self.assertRaises(TypeError):
             regress.search("a", b"a")

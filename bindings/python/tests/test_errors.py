@@ -93,6 +93,24 @@ class Refused(unittest.TestCase):
             self.assertRaises(regress.TooManySteps, regress.compile(source, max_steps=3).fullmatch, text_of_letters(pos), pos)
             self.assertEqual(bounded.fullmatch(text_of_letters(pos), pos).end(), 10 + pos)
 
+    def test_enough_steps(self):
+        linear = regress.compile("(a|ab)*c")
+        for string in ("ab" * 2500, "é" + "ab" * 2500, "\ud83d" + "ab" * 2500, "\ud83d\U0001F600" + "ab" * 2500):
+            with self.subTest(string=string[:3]):
+                steps = linear.linear_steps(len((string + "c").encode("utf-8", "surrogatepass")))
+                bounded = regress.compile("(a|ab)*c", max_steps=steps)
+                self.assertIsNone(bounded.search(string))
+                self.assertIsNone(bounded.search(string[1:]))
+                self.assertIsNone(bounded.match(string, 1))
+                self.assertEqual(bounded.findall(string + "c"), ["ab"])
+        few = regress.compile("(a|ab)*c", max_steps=linear.linear_steps(5000) // 2)
+        self.assertRaises(regress.TooManySteps, few.search, "ab" * 2500)
+        fewest = regress.compile("(?:ab?)*c").linear_steps(5000)  # a search that needs the table there
+        self.assertIsNone(regress.compile("(?:ab?)*c", max_steps=fewest).search("ab" * 2500))
+        self.assertRaises(regress.TooManySteps, regress.compile("(?:ab?)*c", max_steps=fewest - 1).search, "ab" * 2500)
+        other = regress.compile(r"(?:(a)\1|a|ab)*c", max_steps=linear.linear_steps(5000))
+        self.assertRaises(regress.TooManySteps, other.search, "ab" * 2500)
+
     def test_a_number_of_steps(self):
         bounded = regress.compile("a", max_steps=5)
         self.assertEqual((bounded.max_steps, regress.compile("a").max_steps), (5, None))

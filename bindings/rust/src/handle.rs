@@ -143,6 +143,20 @@ impl Handle {
         Handle::compile(sys::regress_raw_compile_units_within, pattern, flags, sys::DEFAULT_LIMIT)
     }
 
+    /// Whether a pattern is known to be linear.
+    pub fn is_linear(&mut self) -> bool {
+        // SAFETY: a handle that is borrowed for this call alone.
+        expect_done(unsafe { sys::regress_raw_is_linear(&mut self.0) }) == 1
+    }
+
+    /// How many steps are enough for each search of a pattern in a text of so many bytes or units, where that is known.
+    pub fn linear_steps(&mut self, length: usize) -> Option<usize> {
+        let mut steps = sys::NO_BOUND;
+        // SAFETY: a handle and a number that are borrowed for this call alone.
+        expect_done(unsafe { sys::regress_raw_linear_steps(&mut self.0, length, &mut steps) });
+        Some(steps).filter(|&steps| steps != sys::NO_BOUND)
+    }
+
     /// How many capturing groups a pattern has.
     pub fn group_count(&mut self) -> usize {
         // SAFETY: a handle that is borrowed for this call alone.

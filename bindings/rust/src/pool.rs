@@ -23,6 +23,16 @@ impl Pool {
         Pool::new(lock(&self.0).pattern.share())
     }
 
+    /// Whether the pattern is known to be linear.
+    pub fn is_linear(&self) -> bool {
+        lock(&self.0).pattern.is_linear()
+    }
+
+    /// How many steps are enough for each search in a text of so many bytes or units, where that is known.
+    pub fn linear_steps(&self, length: usize) -> Option<usize> {
+        lock(&self.0).pattern.linear_steps(length)
+    }
+
     /// Takes a search, one that is idle where there is one. The lock is held for that alone.
     pub fn take(&self) -> Taken<'_> {
         let mut kept = lock(&self.0);

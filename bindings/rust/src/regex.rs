@@ -111,6 +111,42 @@ impl Regex {
         Bounded::new(self, steps)
     }
 
+    /// Whether the pattern is known to be linear: a search by [`Regex::within`] with as many steps as [`Regex::linear_steps`] tells has
+    /// enough of them, whatever the text is. A search without a bound goes no other way for it.
+    ///
+    /// A pattern is linear that has no back reference; whose repetitions have no greatest number, or 1, and a least number of 0 or 1,
+    /// or are of one character and have numbers up to 256; in which nothing that may be empty is repeated; and whose lookarounds hold no groups or
+    /// are negated, with no lookahead inside a lookbehind. It has at most 65,536 instructions, and no atomic group. Where memory for the
+    /// tables was refused it isn't known to be.
+    ///
+    /// ```
+    /// use regress_proved::Regex;
+    ///
+    /// assert!(Regex::new("(a|ab)*c")?.is_linear());
+    /// assert!(!Regex::new(r"(a)\1")?.is_linear());
+    /// # Ok::<(), regress_proved::Error>(())
+    /// ```
+    pub fn is_linear(&self) -> bool {
+        self.pool.is_linear()
+    }
+
+    /// How many steps are enough for each search in a text of so many bytes or 16-bit units, or of fewer: with so many or more no call of
+    /// [`Regex::within`] errs with `TooManySteps` there. `None` where the pattern isn't known to be linear, and where the table of such a
+    /// text would take more than 64 MB, a bit for each instruction at each offset.
+    ///
+    /// ```
+    /// use regress_proved::{Regex, SearchError};
+    ///
+    /// let nested = Regex::new(r"^(\w|\w\w)*!$").unwrap();
+    /// let text = "a".repeat(40) + "?!";
+    /// let steps = nested.linear_steps(text.len()).unwrap_or(1_000_000);
+    /// assert!(!nested.within(steps).is_match(&text)?);
+    /// # Ok::<(), SearchError>(())
+    /// ```
+    pub fn linear_steps(&self, length: usize) -> Option<usize> {
+        self.pool.linear_steps(length)
+    }
+
     /// The first match in a text.
     pub fn find(&self, text: &str) -> Option<Match> {
         self.find_iter(text).next()

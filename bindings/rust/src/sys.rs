@@ -9,7 +9,7 @@ pub const NO_ROOM: i32 = -6;
 pub const SYNTAX: i32 = -7;
 pub const TOO_MANY_STEPS: i32 = -19;
 
-/// How many steps a search may take that has no bound.
+/// How many steps a search may take that has no bound, and what is told where no number of steps is known to be enough.
 pub const NO_BOUND: usize = usize::MAX;
 
 /// `REGRESS_DEFAULT_LIMIT`.
@@ -85,6 +85,8 @@ extern "C" {
         out: *mut RawHandle,
         error: *mut Failure,
     ) -> i32;
+    pub fn regress_raw_is_linear(pattern: *mut RawHandle) -> i32;
+    pub fn regress_raw_linear_steps(pattern: *mut RawHandle, length: usize, steps: *mut usize) -> i32;
     pub fn regress_raw_group_count(pattern: *mut RawHandle) -> i32;
     pub fn regress_raw_group_name(
         pattern: *mut RawHandle,

@@ -42,6 +42,44 @@ fn a_search_answers_the_same_or_errs() {
 }
 
 #[test]
+fn linear_patterns_are_told() {
+    for pattern in ["(a|ab)*c", "a{3,9}b", "(?<!a)b", "", PATTERN] {
+        assert!(Regex::new(pattern).unwrap().is_linear(), "{pattern}");
+    }
+    let other = Regex::new(r"(a)\1").unwrap();
+    assert_eq!((other.is_linear(), other.linear_steps(10)), (false, None));
+    let linear = Regex::new("(a|ab)*c").unwrap();
+    let (ten, eleven) = (linear.linear_steps(10).unwrap(), linear.clone().linear_steps(11).unwrap());
+    assert!(10 < ten && ten < eleven && eleven < 10_000);
+    assert_eq!((linear.linear_steps(1 << 30), linear.linear_steps(usize::MAX)), (None, None));
+}
+
+#[test]
+fn enough_steps_are_enough() {
+    let linear = Regex::new("(a|ab)*c").unwrap();
+    let text = "ab".repeat(2500);
+    let steps = linear.linear_steps(text.len()).unwrap();
+    assert_eq!(linear.within(steps).is_match(&text), Ok(false));
+    assert_eq!(linear.within(steps).is_match(&text[1..]), Ok(false), "nor in a shorter text");
+    assert_eq!(linear.within(steps / 2).is_match(&text), Err(SearchError::TooManySteps));
+    let table_alone = Regex::new("(?:ab?)*c").unwrap();
+    let fewest = table_alone.linear_steps(text.len()).unwrap();
+    assert_eq!(table_alone.within(fewest).is_match(&text), Ok(false));
+    assert_eq!(table_alone.within(fewest - 1).is_match(&text), Err(SearchError::TooManySteps));
+    let units: Vec<u16> = text.encode_utf16().collect();
+    assert_eq!(told(linear.within(steps).find_from_utf16(&units, 0)), (vec![], None));
+    assert_eq!(told(linear.within(steps).find_from_ucs2(&units, 1)), (vec![], None));
+    let ended = text + "c-c";
+    let found = linear.within(linear.linear_steps(ended.len()).unwrap()).find_iter(&ended).map(Result::unwrap);
+    assert_eq!(
+        found.map(|found| (found.range(), found.group(1))).collect::<Vec<_>>(),
+        [(0..5001, Some(4998..5000)), (5002..5003, None)]
+    );
+    let other = Regex::new(r"(?:(a)\1|a|ab)*c").unwrap();
+    assert_eq!(other.within(steps).is_match(&"ab".repeat(2500)), Err(SearchError::TooManySteps));
+}
+
+#[test]
 fn each_match_has_the_steps_anew() {
     let regex = Regex::new(PATTERN).unwrap();
     let second = least(|steps| regex.within(steps).find_from(TEXT, 2).next().transpose());

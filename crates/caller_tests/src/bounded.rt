@@ -1,4 +1,5 @@
 //! Searches that may take so many steps, and no more. By their public calls, as callers would write them.
+ghost use Rattle.std.specs.Prelude.{IsErrOf};
 
 use crate::told::{compiled, ends};
 use regress::{Match, Regex, SearchError, Tables, is_start};
@@ -67,6 +68,16 @@ fn fields<'t>(
         fields.push(field)?;
     }
     Ok(fields)
+}
+
+/// The first match of a linear pattern, in as many steps as are always enough; `None` of any other pattern.
+fn first_linear(regex: &Regex, text: &str) -> Result<Option<Match>, SearchError>
+    ensures { IsErrOf result SearchError.TooManySteps → ⊥ }
+{
+    let Some(steps) = regex.linear_steps(text.len()) else {
+        return Ok(None);
+    };
+    regex.within(steps).find(text)
 }
 
 #[test]
@@ -142,5 +153,22 @@ fn texts_in_so_many_steps(rt: HostRuntime) -> Result<(), Fail> {
             Err(SearchError::TooManySteps)
         )
     );
+    Ok(())
+}
+
+#[test]
+fn a_linear_pattern_is_searched_in_enough_steps(rt: HostRuntime) -> Result<(), Fail> {
+    let tables = Tables::small(rt.alloc())?;
+    // From each letter the lookahead goes on to the end: without a table the steps grow as the square of the length.
+    let regex = compiled(rt.alloc(), "(?:(?=(?:a|d)*b)a)*c", "", &tables)?;
+    let mut text = "a".repeat(rt.alloc(), 2_000)?;
+    text.push('b')?;
+    assert!(rt; ends(first_linear(&regex, text.as_str())?) == None);
+    let enough = regex.linear_steps(text.len()).unwrap_or(0);
+    assert!(rt; regex.within(enough).is_match(text.as_str()) == Ok(false));
+    let fewer = enough.saturating_sub(1);
+    assert!(rt; regex.within(fewer).is_match(text.as_str()) == Err(SearchError::TooManySteps));
+    text.push('c')?;
+    assert!(rt; ends(first_linear(&regex, text.as_str())?) == Some((2_001, 2_002)));
     Ok(())
 }

@@ -1,7 +1,8 @@
 -- What is found in so many steps.
-use Rattle.std.proofs.Common.{◌≡◌, ◌<◌, ℕ, get_or, Any, zero, suc, ◌+◌, ◌-◌, List, [], ◌∷◌, length, map, chars, Option, Some, None, Result, Ok, Err, IfOk, refl, sym, ap, subst, ◌∙◌, arith}
+use Rattle.std.proofs.Common.{◌≡◌, ◌<◌, Bool, false, ℕ, get_or, Any, zero, suc, ◌+◌, ◌-◌, List, [], ◌∷◌, length, map, chars, Option, Some, None, Result, Ok, Err, IfOk, refl, sym, ap, subst, ◌∙◌, arith}
 use Rattle.std.specs.Option.{option_transpose, option_map_or}
 use Rattle.std.specs.Result.{IsErrAnd}
+use Rattle.std.proofs.lemmas.Bool.{false_from_ne_true}
 use Rattle.regress_meaning.specs.Matches.{Item, next_place, list_from, first_match, match_list}
 use Rattle.regress_meaning.specs.Offsets.{of_utf8, told}
 use Rattle.regress_match.specs.declared.found.Match.{Match}
@@ -15,11 +16,12 @@ use Rattle.regress_engine_exec.specs.declared.error.SearchError.TheVariants.{Out
 use Rattle.regress_engine_exec.specs.Counting.{CountsStep}
 use Rattle.regress_programs.specs.declared.slots.Anchored.TheVariants.{No}
 use Rattle.regress_programs.specs.declared.compiled.Compiled.{Compiled}
-use Rattle.regress_programs.specs.Counting.{Counts}
+use Rattle.regress_programs.specs.Counting.{Counts, Stops}
+use Rattle.regress_programs.specs.Tables.{byte_table_of}
 use Rattle.regress_bounded.specs.declared.bounded.Bounded.{Bounded}
 use Rattle.regress_bounded.specs.Coming.{GivesWithin}
-use Rattle.regress_bounded.specs.Standing.{compiled_of, steps_of, TakesAllInBytes}
-use Rattle.regress_bounded.specs.Stopping.{seen_by, TakesAll}
+use Rattle.regress_bounded.specs.Standing.{compiled_of, steps_of, byte_program_of, may_turn_in_bytes, TakesAllInBytes}
+use Rattle.regress_bounded.specs.Stopping.{seen_by}
 use Rattle.regress.proofs.IterationLemmas.{first-given}
 use Rattle.regress.specs.declared.api.Regex.{Regex}
 use Rattle.esgrep_rows.specs.Found.{Found, found_at}
@@ -58,29 +60,37 @@ handed-same (Err y) x e is err = cc (is, err)
 step-too_long : (s : Search) (from : Option ℕ) (given : Option (Result Match SearchError)) (before after : ℕ)
     → CountsStep (λ e. e ≡ TooManySteps) s from given (Some before) (Some after)
     → (from ≡ None → given ≡ None) → given ≡ Some (Err TooManySteps) → (program : CompiledRegex) (v : View) (steps : ℕ)
-    → s.compiled ≡ program → s.view ≡ v → before ≡ steps → (at : ℕ) × TakesAll No program v at steps
+    → s.compiled ≡ program → s.view ≡ v → before ≡ steps → (at : ℕ) × Counts No program v at (Some steps) (Some 0)
 step-too_long s None given before after counts ended is program v steps made over left = absurd (let none = sym (ended refl) ∙ is in cc none)
 step-too_long s (Some at) None before after counts ended is program v steps made over left = absurd (cc is)
 step-too_long s (Some at) (Some (Ok m)) before after counts ended is program v steps made over left = absurd (cc is)
 step-too_long s (Some at) (Some (Err OutOfMemory)) before after counts ended is program v steps made over left = absurd (cc is)
 step-too_long s (Some at) (Some (Err TooManySteps)) before after counts ended is program v steps made over left =
-    let all : TakesAll No s.compiled s.view at before = subst (λ (n : Option ℕ). Counts No s.compiled s.view at (Some before) n) (counts refl).0 (counts refl).1 in
-    (at, subst (λ (n : ℕ). TakesAll No program v at n) left (subst (λ (w : View). TakesAll No program w at before) over (subst (λ (c : CompiledRegex). TakesAll No c s.view at before) made all)))
+    let all : Counts No s.compiled s.view at (Some before) (Some 0)
+    = subst (λ (n : Option ℕ). Counts No s.compiled s.view at (Some before) n) (counts refl).0 (counts refl).1 in (
+      at,
+      subst (λ (n : ℕ). Counts No program v at (Some n) (Some 0)) left
+          (subst (λ (w : View). Counts No program w at (Some before) (Some 0)) over (subst (λ (c : CompiledRegex). Counts No c s.view at (Some before) (Some 0)) made all)),
+    )
 
--- the same of a call of an iterator
-pub within-too_long : {S : Type 0} (search_by : S → Search) (next_from : S → Option ℕ) (budget_of : S → ℕ) (old new : S) (given : Option (Result Match SearchError))
-    → GivesWithin search_by next_from budget_of old given new → given ≡ Some (Err TooManySteps) → (program : CompiledRegex) (v : View) (steps : ℕ)
-    → (search_by old).compiled ≡ program → (search_by old).view ≡ v → budget_of old ≡ steps → (at : ℕ) × TakesAll No program v at steps
-within-too_long search_by next_from budget_of old new given step is program v steps made over left =
-    step-too_long (search_by old) (next_from old) given (budget_of old) (budget_of new) step.counted step.ended is program v steps made over left
+-- A call of an iterator that had too many steps did not turn to a table, so it began with all that there may be, and its search takes them.
+pub within-too_long : {S : Type 0} (search_by : S → Search) (next_from : S → Option ℕ) (budget_of : S → ℕ) (turns_of : S → Bool) (old new : S)
+    (given : Option (Result Match SearchError)) → GivesWithin search_by next_from budget_of turns_of old given new → given ≡ Some (Err TooManySteps)
+    → (b : Bounded) (text : List ℕ) → (search_by old).compiled ≡ byte_program_of b → (search_by old).view ≡ seen_by (byte_program_of b) utf8 text
+    → turns_of old ≡ may_turn_in_bytes b text → (turns_of old ≡ false → budget_of old ≡ steps_of b) → (at : ℕ) × TakesAllInBytes b No utf8 text at
+within-too_long search_by next_from budget_of turns_of old new given step is b text made over turns left =
+    let stays : turns_of old ≡ false = false_from_ne_true (turns_of old) (λ yes. step.never yes is) in
+    let (at, takes) = step-too_long (search_by old) (next_from old) given (budget_of old) (budget_of new) step.counted step.ended is (byte_program_of b) (seen_by (byte_program_of b) utf8 text)
+    (steps_of b) made over (left stays) in
+    (at, (sym turns ∙ stays, takes))
 
 -- where a regex with a number of steps takes all of them, the search for it is too long
 pub all-too_long : (regex : Regex) (b : Bounded) (steps : ℕ) → compiled_of b ≡ regex.compiled → steps_of b ≡ steps → (text : List ℕ) (at : ℕ)
     → TakesAllInBytes b No utf8 text at → IsTooLong (Some steps) text regex
 all-too_long regex b steps same many text at takes = (
   at,
-  subst (λ (c : Compiled). TakesAll No c.byte_program (seen_by c.byte_program utf8 text) at steps) same
-      (subst (λ (n : ℕ). TakesAll No (compiled_of b).byte_program (seen_by (compiled_of b).byte_program utf8 text) at n) many takes),
+  subst (λ (c : Compiled). Stops (byte_table_of c) No c.byte_program (seen_by c.byte_program utf8 text) at (Some steps)) same
+      (subst (λ (n : ℕ). Stops (byte_table_of (compiled_of b)) No (compiled_of b).byte_program (seen_by (compiled_of b).byte_program utf8 text) at (Some n)) many takes),
 )
 
 -- the leftmost match of one pattern is its first

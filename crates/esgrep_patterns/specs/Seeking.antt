@@ -13,7 +13,9 @@ use Rattle.regress.specs.declared.api.Regex.{Regex}
 use Rattle.regress.specs.Standing.{StandsFor, names_of_regex}
 use Rattle.regress_engine_input.specs.Views.{utf8}
 use Rattle.regress_programs.specs.declared.slots.Anchored.TheVariants.{No}
-use Rattle.regress_bounded.specs.Stopping.{seen_by, TakesAll}
+use Rattle.regress_programs.specs.Counting.{Stops}
+use Rattle.regress_programs.specs.Tables.{byte_table_of}
+use Rattle.regress_bounded.specs.Stopping.{seen_by}
 use Rattle.esgrep_rows.specs.Found.{Found, Find, found_at}
 use Rattle.esgrep_patterns.specs.declared.patterns.Patterns.{Patterns}
 
@@ -111,11 +113,11 @@ regexes_of patterns = patterns.regexes.items
 abbrev pub steps_of : Patterns → Option ℕ
 steps_of patterns = patterns.steps
 
--- From some offset of a text the runs of a search for a regex take as many steps as it may take, or more.
+-- In a text a search for a regex may not turn to a table with so many steps, and from some offset its runs take as many as it may take, or more.
 abbrev pub IsTooLong : Option ℕ → List ℕ → Regex → Type 0
 IsTooLong None text regex = ⊥
 IsTooLong (Some steps) text regex =
-    let program = regex.compiled.byte_program in (at : ℕ) × TakesAll No program (seen_by program utf8 text) at steps
+    let program = regex.compiled.byte_program in (at : ℕ) × Stops (byte_table_of regex.compiled) No program (seen_by program utf8 text) at (Some steps)
 
 -- a search for one of the patterns in a text is too long
 abbrev pub GivesUp : Patterns → List ℕ → Type 0

@@ -7,6 +7,7 @@ use crate::syntax::push_syntax;
 use crate::texts::push_quoted;
 use crate::trees::push_node;
 use regress_engine_code::CompiledRegex;
+use regress_engine_linear::LinearTable;
 use regress_front::ir::Regex;
 use regress_front::{CaptureGroupName, Tables};
 use std::alloc::{AllocError, Global};
@@ -23,6 +24,7 @@ enum Section {
     Units,
     Groups,
     Sizes,
+    Linear,
 }
 
 /// The sections in their order, with how a line names them, and their headings.
@@ -40,6 +42,7 @@ const SECTIONS: &[(Section, &str, &str)] = &[
     (Section::Units, "units", "  program of units\n"),
     (Section::Groups, "groups", "  groups and names\n"),
     (Section::Sizes, "sizes", "  sizes\n"),
+    (Section::Linear, "linear", "  linear\n"),
 ];
 
 /// How deep the first line of a section is indented, in steps.
@@ -95,6 +98,7 @@ fn push_section(
         Section::Units => push_units(alloc, out, forms, request.shows("program")),
         Section::Groups => push_groups(out, forms.program.group_names()),
         Section::Sizes => push_sizes(alloc, out, forms),
+        Section::Linear => push_linear(alloc, out, forms),
     }
 }
 
@@ -194,4 +198,22 @@ fn push_program_sizes(
         out,
         "    {kind}: instructions {insns}, brackets {brackets}, loops {loops}, groups {groups}\n"
     )
+}
+
+/// Whether each program is linear.
+fn push_linear(alloc: Global, out: &mut String, forms: &Forms<'_>) -> Result<(), AllocError> {
+    push_program_linear(alloc, out, "rewritten, of bytes", &forms.program)?;
+    push_program_linear(alloc, out, "as parsed, of units", &forms.units)
+}
+
+/// Whether a program is.
+fn push_program_linear(
+    alloc: Global,
+    out: &mut String,
+    kind: &str,
+    program: &CompiledRegex,
+) -> Result<(), AllocError> {
+    let found = LinearTable::of(alloc, program.insns(), program.loops() as usize)?;
+    let answer = if found.is_some() { "yes" } else { "no" };
+    write!(out, "    {kind}: {answer}\n")
 }

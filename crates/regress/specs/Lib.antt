@@ -13,3 +13,4 @@ pub use Rattle.regress_programs.specs.Units
 pub use Rattle.regress_programs.specs.Slotted
 pub use Rattle.regress_programs.specs.Ascii
 pub mod Literals
+pub mod Linear

@@ -7,8 +7,8 @@ use Rattle.regress_meaning.specs.Pattern.{Pattern}
 use Rattle.regress_meaning.specs.Flags.{Options}
 use Rattle.regress_meaning.specs.Matches.{Item}
 use Rattle.regress_front.specs.Trees.{Tree}
-use Rattle.regress_engine.specs.Layout.{Target}
-use Rattle.regress_engine.specs.Standing.{names_of, target_of}
+use Rattle.regress_engine_insn.specs.Layout.{Target}
+use Rattle.regress_engine_code.specs.Standing.{names_of, target_of}
 use Rattle.regress.specs.declared.api.Regex.{Regex}
 use Rattle.regress_programs.specs.Outcomes.{outcome_of_tree}
 use Rattle.regress_programs.specs.Programs.{IsProgramOf, IsLaidOutFrom, items_of_tree}

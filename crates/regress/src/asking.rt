@@ -8,11 +8,12 @@ ghost use Rattle.regress_meaning.specs.Matches.{match_list};
 ghost use Rattle.regress_meaning.specs.Offsets.{of_utf8, Begins};
 ghost use Rattle.regress_front.specs.Trees.{Tree};
 ghost use Rattle.regress.specs.Literals.{IsNowhereIn};
+ghost use Rattle.regress_programs.specs.Tables.{byte_table_of, unit_table_of};
 ghost use Rattle.regress.specs.Standing.{StandsFor, StandsInUnits, HasTree, byte_target, unit_target, tree_list, source_of, names_of_regex};
 
 use crate::api::Regex;
 use crate::text::shared;
-use regress_engine::StartPredicate;
+use regress_engine_prefix::StartPredicate;
 use regress_front::{CaptureGroupName, Error};
 use std::fmt;
 
@@ -93,7 +94,7 @@ impl Regex {
         self.group_names().len() + 1
     }
 
-    /// The same regex once more: it stands for the same pattern, and has the same text. Errs with
+    /// The same regex once more: it stands for the same pattern, has the same text, and is linear if this is. Errs with
     /// `OutOfMemory` alone.
     ///
     /// ```rust
@@ -105,6 +106,7 @@ impl Regex {
         ensures named { IfOk result (λ r. names_of_regex r ≡ names_of_regex self.now) }
         ensures programs { IfOk result (λ r. (byte_target r ≡ byte_target self.now) × (unit_target r ≡ unit_target self.now)) }
         ensures text { IfOk result (λ r. source_of r ≡ source_of self.now) }
+        ensures linear { IfOk result (λ r. (byte_table_of r.compiled ≡ byte_table_of self.now.compiled) × (unit_table_of r.compiled ≡ unit_table_of self.now.compiled)) }
         ensures refused { IsOkUnless result Error.OutOfMemory }
     {
         let source = shared(&self.source)?;

@@ -13,12 +13,13 @@ ghost use Rattle.regress_front.specs.Trees.{Tree};
 ghost use Rattle.regress.specs.Standing.{StandsFor, HasTree, tree_list, names_of_regex};
 
 use crate::api::Regex;
-pub use regress_engine::{
-    AnyText, AsciiInput, AsciiText, BacktrackExecutor, Executor, PikeVMExecutor, TextKind,
-    Utf8Input, emit, emit_units,
-};
+pub use regress_engine_code::{emit, emit_units};
+pub use regress_engine_copying::PikeVMExecutor;
+pub use regress_engine_inputs::{AsciiInput, Utf8Input};
+pub use regress_engine_search::{AnyText, AsciiText, Executor, TextKind};
 pub use regress_front::{optimize, try_parse, try_parse_whole_text};
 pub use regress_match::{MatchProducer, Matches};
+pub use regress_programs::BacktrackExecutor;
 use std::alloc::AllocError;
 
 /// The executor that the library's calls in texts go by.

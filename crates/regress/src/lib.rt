@@ -27,9 +27,8 @@ pub use laws::{
 };
 pub use limited::DEFAULT_LIMIT;
 pub use regress_bounded::{Bounded, BoundedMatches, BoundedSplit, BoundedSplitN};
-pub use regress_engine::{
-    CompiledRegex, Scratch, SearchError, is_unit_start, is_well_formed_utf16,
-};
+pub use regress_engine_code::CompiledRegex;
+pub use regress_engine_inputs::{is_unit_start, is_well_formed_utf16};
 pub use regress_errors::{
     CompileError, SyntaxError, SyntaxErrorDisplay, syntax_error, syntax_error_in_points,
     syntax_error_in_units,
@@ -40,7 +39,8 @@ pub use regress_front::{
 };
 pub use regress_match::{Groups, Match, NamedGroups, Range};
 pub use regress_programs::{
-    AsciiMatches, Matches, Ucs2Matches, Utf16Matches, programs_of_trees_are_of_patterns,
+    AsciiMatches, Matches, Scratch, SearchError, Ucs2Matches, Utf16Matches,
+    programs_of_trees_are_of_patterns,
 };
 pub use regress_replacing::{ReplacementSyntax, escape, expand};
 pub use splitting::{Split, SplitN};

@@ -3,19 +3,19 @@ ghost use Rattle.std.specs.Prelude.{◌≡◌, [], true, false};
 ghost use Rattle.regress_meaning.specs.Table.{Table};
 ghost use Rattle.regress_meaning.specs.Pattern.{Pattern};
 ghost use Rattle.regress_meaning.specs.Flags.{Options};
-ghost use Rattle.regress_engine.specs.Standing.{names_of, target_of};
+ghost use Rattle.regress_engine_code.specs.Standing.{names_of, target_of};
 ghost use Rattle.regress.specs.Programs.{IsProgramOf};
 ghost use Rattle.regress.specs.Standing.{StandsFor, StandsInUnits, byte_target, unit_target, source_of, names_of_regex};
 
 use crate::api::Regex;
-use regress_engine::CompiledRegex;
+use regress_engine_code::CompiledRegex;
 use regress_programs::Compiled;
 use std::alloc::Global;
 
 impl Regex {
     /// A regex of two programs, which may be those of two patterns: searches in texts go by the program of bytes, searches in
-    /// 16-bit units by that of units. Its groups are those of the program of bytes, and its text is empty. It takes no memory,
-    /// and keeps the allocator for its searches.
+    /// 16-bit units by that of units. Its groups are those of the program of bytes, and its text is empty. It keeps the allocator for
+    /// its searches. Where memory for it is refused, the programs are not known to be linear (`is_linear`).
     ///
     /// Asks for one program of each kind, as `is_unit_program` tells.
     ///
@@ -35,10 +35,7 @@ impl Regex {
         ensures named { names_of_regex result ≡ names_of byte_program }
         ensures text { source_of result ≡ [] }
     {
-        let compiled = Compiled {
-            byte_program,
-            unit_program,
-        };
+        let compiled = Compiled::of_programs(alloc, byte_program, unit_program);
         Regex {
             alloc,
             source: None,

@@ -10,10 +10,10 @@ ghost use Rattle.regress_match.specs.Slots.{Fills};
 ghost use Rattle.regress.specs.Outcomes.{outcome_at};
 
 use crate::api::Regex;
-use regress_engine::{Scratch, Ucs2Input, Utf8Input, Utf16Input};
+use regress_engine_inputs::{Ucs2Input, Utf8Input, Utf16Input};
 use regress_front::Error;
 use regress_match::Range;
-use regress_programs::{Anchored, find_into};
+use regress_programs::{Anchored, Scratch, find_into};
 
 impl Regex {
     ghost use Rattle.regress.specs.Standing.{StandsFor, StandsInUnits, HasTree, HasTreeInUnits, tree_list, tree_list_in_units, tree_outcome, tree_outcome_in_units};

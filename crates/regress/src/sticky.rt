@@ -11,7 +11,8 @@ ghost use Rattle.regress_match.specs.Views.{item_of};
 ghost use Rattle.regress.specs.Outcomes.{outcome_at};
 
 use crate::api::Regex;
-use regress_engine::{AsciiInput, Ucs2Input, Unbounded, Utf8Input, Utf16Input};
+use regress_engine_inputs::{AsciiInput, Ucs2Input, Utf8Input, Utf16Input};
+use regress_engine_search::Unbounded;
 use regress_front::Error;
 use regress_match::Match;
 use regress_programs::{Anchored, first_within};
@@ -47,7 +48,15 @@ impl Regex {
     {
         let program = &self.compiled.byte_program;
         let input = Utf8Input::new(text, program.flags().is_unicode(), program.tables());
-        let found = first_within(self.alloc, program, input, Anchored::Yes, start, Unbounded)?;
+        let found = first_within(
+            self.alloc,
+            program,
+            None,
+            input,
+            Anchored::Yes,
+            start,
+            Unbounded,
+        )?;
         Ok(found)
     }
 
@@ -74,7 +83,15 @@ impl Regex {
     {
         let program = &self.compiled.byte_program;
         let input = AsciiInput::new(text, program.flags().is_unicode(), program.tables());
-        let found = first_within(self.alloc, program, input, Anchored::Yes, start, Unbounded)?;
+        let found = first_within(
+            self.alloc,
+            program,
+            None,
+            input,
+            Anchored::Yes,
+            start,
+            Unbounded,
+        )?;
         Ok(found)
     }
 
@@ -100,7 +117,15 @@ impl Regex {
     {
         let program = &self.compiled.unit_program;
         let input = Utf16Input::new(units, program.flags().is_unicode(), program.tables());
-        let found = first_within(self.alloc, program, input, Anchored::Yes, start, Unbounded)?;
+        let found = first_within(
+            self.alloc,
+            program,
+            None,
+            input,
+            Anchored::Yes,
+            start,
+            Unbounded,
+        )?;
         Ok(found)
     }
 
@@ -123,7 +148,15 @@ impl Regex {
     {
         let program = &self.compiled.unit_program;
         let input = Ucs2Input::new(units, program.flags().is_unicode(), program.tables());
-        let found = first_within(self.alloc, program, input, Anchored::Yes, start, Unbounded)?;
+        let found = first_within(
+            self.alloc,
+            program,
+            None,
+            input,
+            Anchored::Yes,
+            start,
+            Unbounded,
+        )?;
         Ok(found)
     }
 }

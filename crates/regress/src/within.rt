@@ -1,10 +1,11 @@
 //! Searches that may take so many steps, and no more.
-ghost use Rattle.std.specs.Prelude.{◌≡◌, ℕ};
+ghost use Rattle.std.specs.Prelude.{◌≡◌, ◌≤◌, ℕ, None, IfSome};
 ghost use Rattle.regress_meaning.specs.Table.{Table};
 ghost use Rattle.regress_meaning.specs.Pattern.{Pattern};
 ghost use Rattle.regress_meaning.specs.Flags.{Options};
 ghost use Rattle.regress_front.specs.Trees.{Tree};
 ghost use Rattle.regress_bounded.specs.Standing as bounded;
+ghost use Rattle.regress.specs.Linear.{AreEnough, is_linear};
 ghost use Rattle.regress.specs.Standing.{StandsFor, StandsInUnits, HasTree, HasTreeInUnits, names_of_regex};
 
 use crate::api::Regex;
@@ -14,6 +15,9 @@ impl Regex {
     /// The pattern with a number of steps that each search with it may take, or all searches of an iteration together: its calls
     /// have the names of the calls here, and answer the same, or err with `TooManySteps` where they would take more steps. So a
     /// pattern of a stranger cannot keep a program busy. It takes no memory.
+    ///
+    /// Where the pattern is linear and the steps are enough (`linear_steps`), none errs so: after so many steps as are enough the search goes
+    /// on by a table of the text, of a bit for each instruction of its program at each offset of the text.
     ///
     /// A step does the instruction of one state, or drops the state. One more is counted for each 64 bytes or units that a class
     /// passes over or that a back reference compares. What looks for the next place where a match may begin is not
@@ -39,5 +43,43 @@ impl Regex {
         ensures steps { bounded.steps_of result ≡ steps }
     {
         Bounded::new(self.alloc, &self.compiled, steps)
+    }
+
+    /// Whether the pattern is known to be linear: by tables, which were made when it was compiled, a search takes time that grows as its
+    /// program and the text do, and no more, whatever the text is.
+    ///
+    /// A pattern is linear that has no back reference and no atomic group; whose repetitions may go on without end or are of one iteration
+    /// at most, with a least number of 0 or 1, or are of one character and have numbers up to 256; in which what is repeated
+    /// can't be empty; and whose lookarounds hold no groups or are negated, with no lookahead inside a lookbehind. Its program has at most
+    /// 65,536 instructions. What has to be repeated more often is written out where it is short, so `(?:ab){2,}` is linear too. Where
+    /// memory for the tables was refused a pattern isn't known to be linear.
+    ///
+    /// ```rust
+    /// let linear = regex.is_linear(); // of `(a|ab)*c` true, of `(a)\1` false
+    /// ```
+    pub fn is_linear(&self) -> bool
+        ensures { result ≡ is_linear self.now }
+    {
+        self.compiled.byte_table().is_some() && self.compiled.unit_table().is_some()
+    }
+
+    /// How many steps are enough for each search, and for each iteration, in a text of so many bytes or 16-bit units: `within` so many or
+    /// more none errs with `TooManySteps`. `None` where the pattern isn't known to be linear (`is_linear`), and where the table of such a text
+    /// would take more than 64 MB, a bit for each instruction at each offset.
+    ///
+    /// ```rust
+    /// fn first(regex: &Regex, text: &str) -> Result<Option<Match>, SearchError> {
+    ///     let steps = regex.linear_steps(text.len()).unwrap_or(1_000_000);
+    ///     regex.within(steps).find(text)
+    /// }
+    /// ```
+    pub fn linear_steps(&self, units: usize) -> Option<usize>
+        ensures enough { IfSome result (λ n. (steps : ℕ) → n ≤ steps → AreEnough self.now units steps) }
+        ensures least { IfSome result (λ n. (steps : ℕ) → AreEnough self.now units steps → n ≤ steps) }
+        ensures none { result ≡ None → (steps : ℕ) → AreEnough self.now units steps → ⊥ }
+    {
+        let in_bytes = self.compiled.byte_steps(units)?;
+        let in_units = self.compiled.unit_steps(units)?;
+        Some(in_bytes.max(in_units))
     }
 }

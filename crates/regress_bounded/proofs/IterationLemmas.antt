@@ -1,7 +1,7 @@
 -- An iterator with a budget: what it searches, and what holds of each match that it gives.
 use Rattle.std.specs.Prelude.{not}
 use Rattle.std.specs.Iterator.{Yields}
-use Rattle.std.proofs.Common.{◌≡◌, ℕ, List, Option, Result, refl, sym, ap, subst}
+use Rattle.std.proofs.Common.{◌≡◌, Bool, ℕ, List, Option, Result, refl, sym, ap, subst}
 use Rattle.regress_match.specs.declared.found.Match.{Match}
 use Rattle.regress_engine_input.specs.Views.{View, Kind, utf8, ascii, utf16, ucs2, are_bytes}
 use Rattle.regress_engine_code.specs.declared.compiled.CompiledRegex.{CompiledRegex}
@@ -29,9 +29,9 @@ search-for compiled kind units same s view program = record {
   made = subst (λ (x : CompiledRegex × View). IsMadeOf x.0 x.1) (λ i. (sym program i, sym view i)) (made-for compiled kind units same);
 }
 
-module _ {S : Type 0} (search_by : S → Search) (next_from : S → Option ℕ) (budget_of : S → ℕ) where
+module _ {S : Type 0} (search_by : S → Search) (next_from : S → Option ℕ) (budget_of : S → ℕ) (turns_of : S → Bool) where
   abbrev gives : S → Option (Result Match SearchError) → S → Type 0
-  gives old r new = GivesWithin search_by next_from budget_of old r new
+  gives old r new = GivesWithin search_by next_from budget_of turns_of old r new
 
   -- calls go over one text
   pub searched-along : (ms old : S) (given : List (Result Match SearchError)) → Yields gives ms given old → search_by old ≡ search_by ms

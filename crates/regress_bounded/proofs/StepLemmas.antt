@@ -1,6 +1,6 @@
 -- What a step of an executor with a budget gives, told as a call of an iterator over it.
-use Rattle.std.specs.Prelude.{OnSome}
-use Rattle.std.proofs.Common.{◌≡◌, true, ℕ, ◌<◌, List, [], ◌∷◌, Option, Some, None, Result, Ok, Err, IfSome, sym, ap, ◌∙◌, subst}
+use Rattle.std.specs.Prelude.{OnSome, IfErr}
+use Rattle.std.proofs.Common.{◌≡◌, Bool, true, refl, ℕ, ◌<◌, List, [], ◌∷◌, Option, Some, None, Result, Ok, Err, IfSome, sym, ap, ◌∙◌, subst}
 use Rattle.regress_match.specs.declared.found.Match.{Match}
 use Rattle.regress_match.specs.Views.{item_of}
 use Rattle.regress_match.specs.Iterating.{coming_on, steps_on}
@@ -10,6 +10,8 @@ use Rattle.regress_engine_input.specs.Views.{AreOfKind, are_bytes}
 use Rattle.regress_engine_code.specs.Standing.{names_of}
 use Rattle.regress_engine_search.proofs.ProducerLemmas.{match-in_bytes}
 use Rattle.regress_engine_exec.specs.declared.error.SearchError.{SearchError}
+use Rattle.regress_engine_exec.specs.declared.error.SearchError.TheVariants.{TooManySteps}
+use Rattle.regress_engine_exec.specs.Turned.{NeverOver}
 use Rattle.regress_engine_search.specs.Search.{Search, IsMatchOf, Steps, items_from, places_behind}
 use Rattle.regress_matched.specs.Giving.{GivesFound}
 use Rattle.regress_bounded.specs.Coming.{UnlessFound}
@@ -33,6 +35,11 @@ module _ (s after : Search) (kept : after ≡ s) (before next : Option ℕ) wher
       → OnSome r (Unit {0} × Unit {0} × (steps_on (places_behind after) next < steps_on (places_behind s) before))
   step-nearer None nearer = tt
   step-nearer (Some x) nearer = (tt, tt, subst (λ (x : Search). steps_on (places_behind x) next < steps_on (places_behind s) before) (sym kept) nearer)
+
+-- one that turns to a table never errs with too few steps
+pub step-never : (turns : Bool) (r : Option (Result Match SearchError)) → IfSome r (λ given. IfErr given (NeverOver (λ e. e ≡ TooManySteps) turns)) → turns ≡ true
+    → r ≡ Some (Err TooManySteps) → ⊥
+step-never turns r never does is = subst (λ x. IfSome x (λ given. IfErr given (NeverOver (λ e. e ≡ TooManySteps) turns))) is never does refl
 
 -- over bytes a match that is given lies in the text
 pub given-in_text : (s : Search) → are_bytes s.view.kind ≡ true → AreOfKind s.view.kind s.view.units → (before : List Item) (r : Option (Result Match SearchError)) (after : List Item)

@@ -1,7 +1,7 @@
 -- What is counted over an iteration, call by call.
 use Rattle.std.specs.Iterator.{Yields}
 use Rattle.std.specs.Prelude.{IsErrOf, IfErr}
-use Rattle.std.proofs.Common.{◌≡◌, ◌⊎◌, ℕ, ◌+◌, ◌≤◌, List, [], ◌∷◌, map, Option, Some, None, Result, Ok, Err, inl, inr, refl, sym, ap, ◌∙◌, subst, arith}
+use Rattle.std.proofs.Common.{◌≡◌, ◌⊎◌, Bool, true, false, ℕ, ◌+◌, ◌≤◌, List, [], ◌∷◌, map, Option, Some, None, Result, Ok, Err, inl, inr, refl, sym, ap, ◌∙◌, subst, arith}
 use Rattle.regress_meaning.specs.Matches.{Item}
 use Rattle.regress_match.specs.declared.found.Match.{Match}
 use Rattle.regress_match.specs.Iterating.{coming_on}
@@ -53,9 +53,14 @@ last-only s at before after (m, takes, spent) =
     let same : m ≡ 0 + m = omega arith in
     (at, 0, m, no_search, takes, subst (λ x. Spends (Some before) (Some after) (most_counted s.view x)) same spent)
 
-module _ {S : Type 0} (search_by : S → Search) (next_from : S → Option ℕ) (budget_of : S → ℕ) where
+-- what is not true is false
+not-true : (b : Bool) → (b ≡ true → ⊥) → b ≡ false
+not-true true never = absurd (never refl)
+not-true false never = refl
+
+module _ {S : Type 0} (search_by : S → Search) (next_from : S → Option ℕ) (budget_of : S → ℕ) (turns_of : S → Bool) where
   abbrev gives : S → Option (Result Match SearchError) → S → Type 0
-  gives old r new = GivesWithin search_by next_from budget_of old r new
+  gives old r new = GivesWithin search_by next_from budget_of turns_of old r new
 
   -- a call that gave a match goes on with the items behind it
   goes-on : (old new : S) (m : Match) → gives old (Some (Ok m)) new
@@ -98,7 +103,7 @@ module _ {S : Type 0} (search_by : S → Search) (next_from : S → Option ℕ) 
           (subst (CountsSearch (program_of (search_by now).compiled) (search_by now).view at (Some (budget_of now))) (counted refl).0 (counted refl).1))
 
   -- over an iteration
-  pub counts-along : (from : S) → CountsAlong search_by next_from budget_of from
+  pub counts-along : (from : S) → CountsAlong search_by next_from budget_of turns_of from
   counts-along from = record {
     given = λ found now yields. given-along found from now yields;
     ended = λ found at now over yields is step. last-along found from now (budget_of over) yields (ended-here at now over is step);
@@ -118,22 +123,31 @@ module _ {S : Type 0} (search_by : S → Search) (next_from : S → Option ℕ) 
       let (found, (before, after, yields, errs)) = errs-of given next old new e others step in (m ∷ found, (before, after, (next, first, yields), errs))
   errs-of (Err x ∷ given) from old new e (next, first, others) step = absurd (ended-gives given next old new (Err e) first.ends others step)
 
+  -- whether it turns to a table stays so
+  turns-along : (found : List Match) (from now : S) → GivesMatches gives from found now → turns_of now ≡ turns_of from
+  turns-along [] from now same = ap turns_of (sym same)
+  turns-along (m ∷ found) from now (next, step, others) = turns-along found next now others ∙ step.turns
+
   module _ (compiled : CompiledRegex) (v : View) (start steps : ℕ) (from : S) (with : (search_by from).compiled ≡ compiled) (over : (search_by from).view ≡ v)
-      (starts : StartsAt (search_by from) start (next_from from)) (budget : budget_of from ≡ steps) where
-    -- where calls err with too few steps, their searches take all
-    pub errs-taken : Errs gives from TooManySteps → TakesAllAlong compiled v start steps
-    errs-taken (found, (old, new, yields, step)) = record {
-      search = search_by from;
-      with = with;
-      over = over;
-      from = next_from from;
-      starts = starts;
-      found = map item_of found;
-      takes = subst (TakeAllTogether (search_by from) (next_from from) (map item_of found)) budget ((counts-along from).stopped found old new yields step);
-    }
+      (starts : StartsAt (search_by from) start (next_from from)) (turn : Bool) (turns : turns_of from ≡ turn) (budget : turns_of from ≡ false → budget_of from ≡ steps) where
+    -- where calls err with too few steps, they don't turn to a table, and their searches take all
+    pub errs-taken : Errs gives from TooManySteps → (turn ≡ false) × TakesAllAlong compiled v start steps
+    errs-taken (found, (old, new, yields, step)) =
+        let never = not-true (turns_of from) (λ yes. step.never (turns-along found from old yields ∙ yes) refl) in (
+          sym turns ∙ never,
+          record {
+            search = search_by from;
+            with = with;
+            over = over;
+            from = next_from from;
+            starts = starts;
+            found = map item_of found;
+            takes = subst (TakeAllTogether (search_by from) (next_from from) (map item_of found)) (budget never) ((counts-along from).stopped found old new yields step);
+          },
+        )
 
     -- they do so only there
-    pub stops-taken : ErrsOnlyIf gives TooManySteps (TakesAllAlong compiled v start steps) from
+    pub stops-taken : ErrsOnlyIf gives TooManySteps ((turn ≡ false) × TakesAllAlong compiled v start steps) from
     stops-taken given old new yields step = errs-taken (errs-of given from old new TooManySteps yields step)
 
 -- a result that errs with too few steps only as calls do

@@ -1,5 +1,5 @@
 -- The matches that an iterator with a budget has still to yield, and the steps that it may still count.
-use Rattle.std.specs.Prelude.{◌≡◌, ℕ, List, Option, Some, None, Result, Ok, Err}
+use Rattle.std.specs.Prelude.{◌≡◌, ℕ, Bool, true, List, Option, Some, None, Result, Ok, Err}
 use Rattle.regress_meaning.specs.Matches.{Item}
 use Rattle.regress_match.specs.declared.found.Match.{Match}
 use Rattle.regress_match.specs.Iterating.{coming_on, steps_on}
@@ -23,6 +23,10 @@ next_from ms = ms.position
 -- how many steps of runs it may still count
 abbrev pub budget_of : {I : Type 0} {g : _} → BoundedMatches I g → ℕ
 budget_of ms = executor.steps_of ms.executor
+
+-- whether it turns to a table where it may count no more
+abbrev pub turns_of : {I : Type 0} {g : _} → BoundedMatches I g → Bool
+turns_of ms = executor.turns_in ms.executor
 
 -- the bytes or units of the text that is searched
 abbrev pub searched : {I : Type 0} {g : _} → BoundedMatches I g → List ℕ
@@ -52,15 +56,17 @@ UnlessFound (Some (Err e)) Q = Q
 
 -- A call of an iterator with a budget. It gives the first of the items that were coming, or an error, or nothing where none was
 -- coming. With an error and with nothing it has ended, and one that has ended gives nothing. No more steps were counted than its
--- search takes, and with `TooManySteps` none are left.
-pub record GivesWithin {S : Type 0} (search_by : S → Search) (next_from : S → Option ℕ) (budget_of : S → ℕ)
+-- search takes, and with `TooManySteps` none are left; one that turns to a table never errs so.
+pub record GivesWithin {S : Type 0} (search_by : S → Search) (next_from : S → Option ℕ) (budget_of : S → ℕ) (turns_of : S → Bool)
     (old : S) (r : Option (Result Match SearchError)) (new : S) : Type 0 where
   pub kept : search_by new ≡ search_by old
   pub first : GivesFound (IsMatchOf (search_by old)) (coming_on (items_from (search_by old)) (next_from old)) r (coming_on (items_from (search_by new)) (next_from new))
   pub ends : UnlessFound r (next_from new ≡ None)
   pub ended : next_from old ≡ None → r ≡ None
   pub counted : CountsStep (λ e. e ≡ TooManySteps) (search_by old) (next_from old) r (Some (budget_of old)) (Some (budget_of new))
+  pub turns : turns_of new ≡ turns_of old
+  pub never : turns_of old ≡ true → r ≡ Some (Err TooManySteps) → ⊥
 
 -- the same of the iterator over the matches of a program
 abbrev pub GivesNext : {I : Type 0} {g : _} → BoundedMatches I g → Option (Result Match SearchError) → BoundedMatches I g → Type 0
-GivesNext old r new = GivesWithin search_by next_from budget_of old r new
+GivesNext old r new = GivesWithin search_by next_from budget_of turns_of old r new

@@ -1,5 +1,5 @@
 -- How many steps the searches of an iteration take together, and how many of them are counted.
-use Rattle.std.specs.Prelude.{◌≡◌, ℕ, ◌+◌, List, [], ◌∷◌, Option, Some, None, Result, Ok, Err, map}
+use Rattle.std.specs.Prelude.{◌≡◌, ℕ, ◌+◌, Bool, List, [], ◌∷◌, Option, Some, None, Result, Ok, Err, map}
 use Rattle.regress_meaning.specs.Matches.{Item}
 use Rattle.regress_match.specs.declared.found.Match.{Match}
 use Rattle.regress_match.specs.Iterating.{coming_on}
@@ -41,13 +41,13 @@ module _ (s : Search) where
 -- What is counted over an iteration. However many matches calls have given, no more steps were counted than their searches take
 -- together, and where a call then gives nothing, none than these and its own; and one errs with `TooManySteps` only where these and
 -- its own take all steps that there were.
-pub record CountsAlong {S : Type 0} (search_by : S → Search) (next_from : S → Option ℕ) (budget_of : S → ℕ) (from : S) : Type 0 where
-  pub given : (found : List Match) (now : S) → GivesMatches (GivesWithin search_by next_from budget_of) from found now
+pub record CountsAlong {S : Type 0} (search_by : S → Search) (next_from : S → Option ℕ) (budget_of : S → ℕ) (turns_of : S → Bool) (from : S) : Type 0 where
+  pub given : (found : List Match) (now : S) → GivesMatches (GivesWithin search_by next_from budget_of turns_of) from found now
       → CountsTogether (search_by from) (next_from from) (map item_of found) (next_from now) (budget_of from) (budget_of now)
-  pub ended : (found : List Match) (at : ℕ) (now over : S) → GivesMatches (GivesWithin search_by next_from budget_of) from found now → next_from now ≡ Some at
-      → GivesWithin search_by next_from budget_of now None over → CountsWithLast (search_by from) (next_from from) (map item_of found) (budget_of from) (budget_of over)
-  pub stopped : (found : List Match) (now over : S) → GivesMatches (GivesWithin search_by next_from budget_of) from found now
-      → GivesWithin search_by next_from budget_of now (Some (Err TooManySteps)) over → TakeAllTogether (search_by from) (next_from from) (map item_of found) (budget_of from)
+  pub ended : (found : List Match) (at : ℕ) (now over : S) → GivesMatches (GivesWithin search_by next_from budget_of turns_of) from found now → next_from now ≡ Some at
+      → GivesWithin search_by next_from budget_of turns_of now None over → CountsWithLast (search_by from) (next_from from) (map item_of found) (budget_of from) (budget_of over)
+  pub stopped : (found : List Match) (now over : S) → GivesMatches (GivesWithin search_by next_from budget_of turns_of) from found now
+      → GivesWithin search_by next_from budget_of turns_of now (Some (Err TooManySteps)) over → TakeAllTogether (search_by from) (next_from from) (map item_of found) (budget_of from)
 
 -- The searches of an iteration with a program from an offset on, up to one of them, take together as many steps as there may be,
 -- or more.

@@ -1,6 +1,6 @@
 //! Searches in texts of ASCII.
 ghost use Rattle.std.specs.Iterator.{HoldsAfterAnyCalls};
-ghost use Rattle.std.specs.Prelude.{◌≡◌, ℕ, IfOk, IfSome, IsErrOf, IsOkUnless, chars, map, option_map, slice_get};
+ghost use Rattle.std.specs.Prelude.{◌≡◌, ℕ, IfOk, IfSome, IsErrOf, IsOkUnless, chars, map, option_map, slice_get, false, true, Some};
 ghost use Rattle.std.specs.Str.{IsAscii};
 ghost use Rattle.regress_meaning.specs.Table.{Table};
 ghost use Rattle.regress_meaning.specs.Pattern.{Pattern};
@@ -28,8 +28,8 @@ use regress_match::Match;
 use regress_programs::{Anchored, first_within};
 
 impl<'r> Bounded<'r> {
-    ghost use Rattle.regress_bounded.specs.Coming.{search_by, next_from, searched, coming, budget_of};
-    ghost use Rattle.regress_bounded.specs.Standing.{StandsFor, HasTree, tree_list, tree_outcome, TakesAllInBytes, TakesAllAlongBytes, steps_of, byte_program_of, names_within};
+    ghost use Rattle.regress_bounded.specs.Coming.{search_by, next_from, searched, coming, budget_of, turns_of};
+    ghost use Rattle.regress_bounded.specs.Standing.{StandsFor, HasTree, tree_list, tree_outcome, TakesAllInBytes, TakesAllAlongBytes, enough_in_bytes, may_turn_in_bytes, steps_of, byte_program_of, names_within};
     ghost use Rattle.regress_bounded.specs.Stopping.{seen_by};
     ghost use Rattle.regress_bounded.specs.Together.{CountsAlong};
 
@@ -52,9 +52,10 @@ impl<'r> Bounded<'r> {
         ensures stopped { IsErrOf result SearchError.TooManySteps → TakesAllInBytes self.now No ascii text.now 0 }
     {
         let program = &self.compiled.byte_program;
+        let table = self.compiled.byte_table();
         let input = AsciiInput::new(text, program.flags().is_unicode(), program.tables());
         let (alloc, steps) = (self.alloc, StepsLeft(self.steps));
-        first_within(alloc, program, input, Anchored::No, 0, steps)
+        first_within(alloc, program, table, input, Anchored::No, 0, steps)
     }
 
     /// All matches in a text of ASCII, one after another, as `find_iter` answers them.
@@ -77,9 +78,11 @@ impl<'r> Bounded<'r> {
             IfOk result (λ ms. coming ms ≡ map (told (of_utf8 text.now)) (tree_list self.now n t (chars text.now) 0)) }
         ensures over { IfOk result (λ ms. (search_by ms).view ≡ seen_by (byte_program_of self.now) ascii text.now) }
         ensures program { IfOk result (λ ms. (search_by ms).compiled ≡ byte_program_of self.now) }
-        ensures steps { IfOk result (λ ms. budget_of ms ≡ steps_of self.now) }
+        ensures turns { IfOk result (λ ms. turns_of ms ≡ may_turn_in_bytes self.now text.now) }
+        ensures steps { IfOk result (λ ms. turns_of ms ≡ false → budget_of ms ≡ steps_of self.now) }
+        ensures lowered { IfOk result (λ ms. turns_of ms ≡ true → Some (budget_of ms) ≡ enough_in_bytes self.now text.now) }
         ensures begins { IfOk result (λ ms. StartsAt (search_by ms) 0 (next_from ms)) }
-        ensures counted { IfOk result (λ ms. CountsAlong search_by next_from budget_of ms) }
+        ensures counted { IfOk result (λ ms. CountsAlong search_by next_from budget_of turns_of ms) }
         ensures stopped { IfOk result (ErrsOnlyIf ⟦<BoundedMatches<'r, AsciiInput<'r, 't>> as Iterator>⟧.next_gives SearchError.TooManySteps (TakesAllAlongBytes self.now ascii text.now 0)) }
         ensures along { IfOk result (HoldsAfterAnyCalls (λ ms. searched ms ≡ text.now) ⟦<BoundedMatches<'r, AsciiInput<'r, 't>> as Iterator>⟧.next_gives) }
         ensures inside { IfOk result (HoldsOfEach ⟦<BoundedMatches<'r, AsciiInput<'r, 't>> as Iterator>⟧.next_gives (LiesInText text.now)) }
@@ -112,9 +115,11 @@ impl<'r> Bounded<'r> {
             IfOk result (λ ms. coming ms ≡ map (told (of_utf8 text.now)) (tree_list self.now n t (chars text.now) place)) }
         ensures over { IfOk result (λ ms. (search_by ms).view ≡ seen_by (byte_program_of self.now) ascii text.now) }
         ensures program { IfOk result (λ ms. (search_by ms).compiled ≡ byte_program_of self.now) }
-        ensures steps { IfOk result (λ ms. budget_of ms ≡ steps_of self.now) }
+        ensures turns { IfOk result (λ ms. turns_of ms ≡ may_turn_in_bytes self.now text.now) }
+        ensures steps { IfOk result (λ ms. turns_of ms ≡ false → budget_of ms ≡ steps_of self.now) }
+        ensures lowered { IfOk result (λ ms. turns_of ms ≡ true → Some (budget_of ms) ≡ enough_in_bytes self.now text.now) }
         ensures begins { IfOk result (λ ms. StartsAt (search_by ms) start (next_from ms)) }
-        ensures counted { IfOk result (λ ms. CountsAlong search_by next_from budget_of ms) }
+        ensures counted { IfOk result (λ ms. CountsAlong search_by next_from budget_of turns_of ms) }
         ensures stopped { IfOk result (ErrsOnlyIf ⟦<BoundedMatches<'r, AsciiInput<'r, 't>> as Iterator>⟧.next_gives SearchError.TooManySteps (TakesAllAlongBytes self.now ascii text.now start)) }
         ensures along { IfOk result (HoldsAfterAnyCalls (λ ms. searched ms ≡ text.now) ⟦<BoundedMatches<'r, AsciiInput<'r, 't>> as Iterator>⟧.next_gives) }
         ensures inside { IfOk result (HoldsOfEach ⟦<BoundedMatches<'r, AsciiInput<'r, 't>> as Iterator>⟧.next_gives (LiesInText text.now)) }
@@ -123,8 +128,9 @@ impl<'r> Bounded<'r> {
         ensures refused { IsOkUnless result SearchError.OutOfMemory }
     {
         let program = &self.compiled.byte_program;
+        let table = self.compiled.byte_table();
         let input = AsciiInput::new(text, program.flags().is_unicode(), program.tables());
-        Ok(BoundedMatches::new(self.alloc, program, input, start, self.steps))
+        Ok(BoundedMatches::new(self.alloc, program, table, input, start, self.steps))
     }
 
     /// The match that begins at `start` in a text of ASCII, an offset in bytes, as `match_at` answers it.
@@ -149,8 +155,9 @@ impl<'r> Bounded<'r> {
         ensures stopped { IsErrOf result SearchError.TooManySteps → TakesAllInBytes self.now Yes ascii text.now start }
     {
         let program = &self.compiled.byte_program;
+        let table = self.compiled.byte_table();
         let input = AsciiInput::new(text, program.flags().is_unicode(), program.tables());
         let (alloc, steps) = (self.alloc, StepsLeft(self.steps));
-        first_within(alloc, program, input, Anchored::Yes, start, steps)
+        first_within(alloc, program, table, input, Anchored::Yes, start, steps)
     }
 }

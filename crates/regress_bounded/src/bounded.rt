@@ -1,6 +1,6 @@
 //! Searches in texts.
 ghost use Rattle.std.specs.Iterator.{HoldsAfterAnyCalls};
-ghost use Rattle.std.specs.Prelude.{◌≡◌, ◌↔◌, ◌≢◌, ℕ, [], IfOk, IfSome, IsErrOf, IsOkUnless, IsTrue, chars, map, option_map, slice_get};
+ghost use Rattle.std.specs.Prelude.{◌≡◌, ◌↔◌, ◌≢◌, ℕ, [], IfOk, IfSome, IsErrOf, IsOkUnless, IsTrue, chars, map, option_map, slice_get, false, true, Some};
 ghost use Rattle.regress_meaning.specs.Table.{Table};
 ghost use Rattle.regress_meaning.specs.Pattern.{Pattern};
 ghost use Rattle.regress_meaning.specs.Flags.{Options};
@@ -40,8 +40,8 @@ pub struct Bounded<'r> {
 }
 
 impl<'r> Bounded<'r> {
-    ghost use Rattle.regress_bounded.specs.Coming.{search_by, next_from, searched, coming, budget_of};
-    ghost use Rattle.regress_bounded.specs.Standing.{StandsFor, HasTree, tree_list, tree_outcome, TakesAllInBytes, TakesAllAlongBytes, compiled_of, steps_of, byte_program_of, names_within};
+    ghost use Rattle.regress_bounded.specs.Coming.{search_by, next_from, searched, coming, budget_of, turns_of};
+    ghost use Rattle.regress_bounded.specs.Standing.{StandsFor, HasTree, tree_list, tree_outcome, TakesAllInBytes, TakesAllAlongBytes, enough_in_bytes, may_turn_in_bytes, compiled_of, steps_of, byte_program_of, names_within};
     ghost use Rattle.regress_bounded.specs.Stopping.{seen_by};
     ghost use Rattle.regress_bounded.specs.Together.{CountsAlong};
 
@@ -80,9 +80,10 @@ impl<'r> Bounded<'r> {
         ensures stopped { IsErrOf result SearchError.TooManySteps → TakesAllInBytes self.now No utf8 text.now 0 }
     {
         let program = &self.compiled.byte_program;
+        let table = self.compiled.byte_table();
         let input = Utf8Input::new(text, program.flags().is_unicode(), program.tables());
         let (alloc, steps) = (self.alloc, StepsLeft(self.steps));
-        first_within(alloc, program, input, Anchored::No, 0, steps)
+        first_within(alloc, program, table, input, Anchored::No, 0, steps)
     }
 
     /// Whether there is a match in a text, as `Regex::is_match` answers it ("RegExp.prototype.test"). Errs as `find` does.
@@ -119,9 +120,10 @@ impl<'r> Bounded<'r> {
         ensures stopped { IsErrOf result SearchError.TooManySteps → TakesAllInBytes self.now No utf8 text.now start }
     {
         let program = &self.compiled.byte_program;
+        let table = self.compiled.byte_table();
         let input = Utf8Input::new(text, program.flags().is_unicode(), program.tables());
         let (alloc, steps) = (self.alloc, StepsLeft(self.steps));
-        match first_within(alloc, program, input, Anchored::No, start, steps) {
+        match first_within(alloc, program, table, input, Anchored::No, start, steps) {
             Ok(found) => Ok(found.is_some()),
             Err(error) => Err(error),
         }
@@ -147,9 +149,11 @@ impl<'r> Bounded<'r> {
             IfOk result (λ ms. coming ms ≡ map (told (of_utf8 text.now)) (tree_list self.now n t (chars text.now) 0)) }
         ensures over { IfOk result (λ ms. (search_by ms).view ≡ seen_by (byte_program_of self.now) utf8 text.now) }
         ensures program { IfOk result (λ ms. (search_by ms).compiled ≡ byte_program_of self.now) }
-        ensures steps { IfOk result (λ ms. budget_of ms ≡ steps_of self.now) }
+        ensures turns { IfOk result (λ ms. turns_of ms ≡ may_turn_in_bytes self.now text.now) }
+        ensures steps { IfOk result (λ ms. turns_of ms ≡ false → budget_of ms ≡ steps_of self.now) }
+        ensures lowered { IfOk result (λ ms. turns_of ms ≡ true → Some (budget_of ms) ≡ enough_in_bytes self.now text.now) }
         ensures begins { IfOk result (λ ms. StartsAt (search_by ms) 0 (next_from ms)) }
-        ensures counted { IfOk result (λ ms. CountsAlong search_by next_from budget_of ms) }
+        ensures counted { IfOk result (λ ms. CountsAlong search_by next_from budget_of turns_of ms) }
         ensures stopped { IfOk result (ErrsOnlyIf ⟦<BoundedMatches<'r, Utf8Input<'r, 't>> as Iterator>⟧.next_gives SearchError.TooManySteps (TakesAllAlongBytes self.now utf8 text.now 0)) }
         ensures along { IfOk result (HoldsAfterAnyCalls (λ ms. searched ms ≡ text.now) ⟦<BoundedMatches<'r, Utf8Input<'r, 't>> as Iterator>⟧.next_gives) }
         ensures inside { IfOk result (HoldsOfEach ⟦<BoundedMatches<'r, Utf8Input<'r, 't>> as Iterator>⟧.next_gives (LiesInText text.now)) }
@@ -181,9 +185,11 @@ impl<'r> Bounded<'r> {
             IfOk result (λ ms. coming ms ≡ map (told (of_utf8 text.now)) (tree_list self.now n t (chars text.now) place)) }
         ensures over { IfOk result (λ ms. (search_by ms).view ≡ seen_by (byte_program_of self.now) utf8 text.now) }
         ensures program { IfOk result (λ ms. (search_by ms).compiled ≡ byte_program_of self.now) }
-        ensures steps { IfOk result (λ ms. budget_of ms ≡ steps_of self.now) }
+        ensures turns { IfOk result (λ ms. turns_of ms ≡ may_turn_in_bytes self.now text.now) }
+        ensures steps { IfOk result (λ ms. turns_of ms ≡ false → budget_of ms ≡ steps_of self.now) }
+        ensures lowered { IfOk result (λ ms. turns_of ms ≡ true → Some (budget_of ms) ≡ enough_in_bytes self.now text.now) }
         ensures begins { IfOk result (λ ms. StartsAt (search_by ms) start (next_from ms)) }
-        ensures counted { IfOk result (λ ms. CountsAlong search_by next_from budget_of ms) }
+        ensures counted { IfOk result (λ ms. CountsAlong search_by next_from budget_of turns_of ms) }
         ensures stopped { IfOk result (ErrsOnlyIf ⟦<BoundedMatches<'r, Utf8Input<'r, 't>> as Iterator>⟧.next_gives SearchError.TooManySteps (TakesAllAlongBytes self.now utf8 text.now start)) }
         ensures along { IfOk result (HoldsAfterAnyCalls (λ ms. searched ms ≡ text.now) ⟦<BoundedMatches<'r, Utf8Input<'r, 't>> as Iterator>⟧.next_gives) }
         ensures inside { IfOk result (HoldsOfEach ⟦<BoundedMatches<'r, Utf8Input<'r, 't>> as Iterator>⟧.next_gives (LiesInText text.now)) }
@@ -192,8 +198,9 @@ impl<'r> Bounded<'r> {
         ensures refused { IsOkUnless result SearchError.OutOfMemory }
     {
         let program = &self.compiled.byte_program;
+        let table = self.compiled.byte_table();
         let input = Utf8Input::new(text, program.flags().is_unicode(), program.tables());
-        Ok(BoundedMatches::new(self.alloc, program, input, start, self.steps))
+        Ok(BoundedMatches::new(self.alloc, program, table, input, start, self.steps))
     }
 
     /// The match that begins at `start`, an offset in bytes, with no search, as `Regex::match_at` answers it ("RegExpBuiltinExec"
@@ -219,8 +226,9 @@ impl<'r> Bounded<'r> {
         ensures stopped { IsErrOf result SearchError.TooManySteps → TakesAllInBytes self.now Yes utf8 text.now start }
     {
         let program = &self.compiled.byte_program;
+        let table = self.compiled.byte_table();
         let input = Utf8Input::new(text, program.flags().is_unicode(), program.tables());
         let (alloc, steps) = (self.alloc, StepsLeft(self.steps));
-        first_within(alloc, program, input, Anchored::Yes, start, steps)
+        first_within(alloc, program, table, input, Anchored::Yes, start, steps)
     }
 }

@@ -1,14 +1,17 @@
 //! The matches of a compiled pattern in a text, in so many steps.
-ghost use Rattle.std.specs.Prelude.{◌≡◌, ℕ};
+ghost use Rattle.std.specs.Prelude.{◌≡◌, ℕ, Some, false, true, length, option_copied};
 ghost use Rattle.std.specs.Iterator.{at_most};
 ghost use Rattle.regress_meaning.specs.Offsets.{Begins};
+ghost use Rattle.regress_engine_code.specs.Standing.{program_of};
 ghost use Rattle.regress_engine_search.specs.Search.{StartsAt, IsMadeOf};
 ghost use Rattle.regress_engine_input.specs.Views.{reading_of};
+ghost use Rattle.regress_engine_exec.specs.Turned.{TellsLinear, enough_by, may_turn};
 ghost use Rattle.regress_programs.specs.Positions.{IsPlaced, IsPlaced-prop};
 
 use regress_engine_code::CompiledRegex;
 use regress_engine_exec::{Backtracker, BoundedExecutor, Scratch, SearchError};
 use regress_engine_inputs::Utf8Input;
+use regress_engine_linear::LinearTable;
 use regress_engine_search::{ExecutorInput, Shown, StepsLeft};
 use regress_match::Match;
 use regress_matched::TextMatches;
@@ -26,40 +29,45 @@ pub struct BoundedMatches<'r, Input: Shown> {
 
 impl<'r, Input: ExecutorInput> BoundedMatches<'r, Input> {
     ghost use Rattle.regress_programs.specs.SearchFor.{IsSearchFor};
-    ghost use Rattle.regress_bounded.specs.Coming.{search_by, next_from, budget_of};
+    ghost use Rattle.regress_bounded.specs.Coming.{search_by, next_from, budget_of, turns_of};
     ghost use Rattle.regress_bounded.specs.Together.{CountsAlong};
 
     /// The matches of a program in an input, from an offset on, in so many steps.
     ///
-    /// Asks that the program is made for the input, and that a search may begin at the offset.
+    /// Asks that the program is made for the input, that it is linear by its table, if one is given, and that a search may begin at the
+    /// offset. If the steps are enough for a linear program (`linear_steps`), searches turn to a table of the text after so many.
     ///
     /// ```rust
     /// let input = Utf8Input::new("aab", false, program.tables());
-    /// let mut matches = BoundedMatches::new(alloc, &program, input, 0, 1_000_000);
+    /// let mut matches = BoundedMatches::new(alloc, &program, None, input, 0, 1_000_000);
     /// ```
     pub fn new(
         alloc: Global,
         program: &'r CompiledRegex,
+        table: Option<&'r LinearTable>,
         input: Input,
         start: usize,
         steps: usize,
     ) -> Self
         requires made { IsMadeOf program.now (Input.view input) }
+        requires linear { TellsLinear (program_of program.now) (option_copied table) }
         requires start { (place : ℕ) × Begins (reading_of (Input.view input)) start place }
         ensures text { (search_by result).view ≡ Input.view input }
         ensures program { (search_by result).compiled ≡ program.entry.now }
         ensures begins { StartsAt (search_by result) start (next_from result) }
-        ensures steps { budget_of result ≡ steps }
-        ensures counted { CountsAlong search_by next_from budget_of result }
+        ensures turns { turns_of result ≡ may_turn (option_copied table.entry) (length (Input.view input).units) (Some steps) }
+        ensures steps { turns_of result ≡ false → budget_of result ≡ steps }
+        ensures lowered { turns_of result ≡ true → Some (budget_of result) ≡ enough_by (option_copied table.entry) (length (Input.view input).units) }
+        ensures counted { CountsAlong search_by next_from budget_of turns_of result }
     {
         let scratch = Scratch::new(alloc);
         let budget = StepsLeft(steps);
-        let executor = Backtracker::with_budget(alloc, program, input, scratch, budget);
+        let executor = Backtracker::with_budget(alloc, program, table, input, scratch, budget);
         let position = executor.initial_position(start);
         BoundedMatches { executor, position }
     }
 
-    /// How many steps it may still take.
+    /// How many steps it may still take; or, if it turns to a table then, after how many.
     ///
     /// ```rust
     /// let left = matches.steps_left();
@@ -72,11 +80,11 @@ impl<'r, Input: ExecutorInput> BoundedMatches<'r, Input> {
 }
 
 impl<'r, Input: ExecutorInput> Iterator for BoundedMatches<'r, Input> {
-    ghost use Rattle.regress_bounded.specs.Coming.{search_by, next_from, budget_of, calls_left, GivesWithin};
+    ghost use Rattle.regress_bounded.specs.Coming.{search_by, next_from, budget_of, turns_of, calls_left, GivesWithin};
 
     type Item = Result<Match, SearchError>;
 
-    ghost next_gives = { λ old r new. GivesWithin search_by next_from budget_of old r new };
+    ghost next_gives = { λ old r new. GivesWithin search_by next_from budget_of turns_of old r new };
 
     ghost remaining = { λ ms. at_most (calls_left ms) };
 

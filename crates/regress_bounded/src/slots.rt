@@ -58,12 +58,14 @@ impl<'r> Bounded<'r> {
         ensures stopped { IsErrOf result SearchError.TooManySteps → TakesAllInBytes self.now No utf8 text.now start }
     {
         let program = &self.compiled.byte_program;
+        let table = self.compiled.byte_table();
         let input = Utf8Input::new(text, program.flags().is_unicode(), program.tables());
         let (alloc, steps) = (self.alloc, StepsLeft(self.steps));
         find_into_within(
             alloc,
             scratch,
             program,
+            table,
             input,
             Anchored::No,
             start,
@@ -103,12 +105,14 @@ impl<'r> Bounded<'r> {
         ensures stopped { IsErrOf result SearchError.TooManySteps → TakesAllInBytes self.now Yes utf8 text.now start }
     {
         let program = &self.compiled.byte_program;
+        let table = self.compiled.byte_table();
         let input = Utf8Input::new(text, program.flags().is_unicode(), program.tables());
         let (alloc, steps) = (self.alloc, StepsLeft(self.steps));
         find_into_within(
             alloc,
             scratch,
             program,
+            table,
             input,
             Anchored::Yes,
             start,
@@ -146,12 +150,14 @@ impl<'r> Bounded<'r> {
         ensures stopped { IsErrOf result SearchError.TooManySteps → TakesAllInUnits self.now No utf16 units.now start }
     {
         let program = &self.compiled.unit_program;
+        let table = self.compiled.unit_table();
         let input = Utf16Input::new(units, program.flags().is_unicode(), program.tables());
         let (alloc, steps) = (self.alloc, StepsLeft(self.steps));
         find_into_within(
             alloc,
             scratch,
             program,
+            table,
             input,
             Anchored::No,
             start,
@@ -190,12 +196,14 @@ impl<'r> Bounded<'r> {
         ensures stopped { IsErrOf result SearchError.TooManySteps → TakesAllInUnits self.now Yes utf16 units.now start }
     {
         let program = &self.compiled.unit_program;
+        let table = self.compiled.unit_table();
         let input = Utf16Input::new(units, program.flags().is_unicode(), program.tables());
         let (alloc, steps) = (self.alloc, StepsLeft(self.steps));
         find_into_within(
             alloc,
             scratch,
             program,
+            table,
             input,
             Anchored::Yes,
             start,
@@ -230,12 +238,14 @@ impl<'r> Bounded<'r> {
         ensures stopped { IsErrOf result SearchError.TooManySteps → TakesAllInUnits self.now No ucs2 units.now start }
     {
         let program = &self.compiled.unit_program;
+        let table = self.compiled.unit_table();
         let input = Ucs2Input::new(units, program.flags().is_unicode(), program.tables());
         let (alloc, steps) = (self.alloc, StepsLeft(self.steps));
         find_into_within(
             alloc,
             scratch,
             program,
+            table,
             input,
             Anchored::No,
             start,
@@ -271,12 +281,14 @@ impl<'r> Bounded<'r> {
         ensures stopped { IsErrOf result SearchError.TooManySteps → TakesAllInUnits self.now Yes ucs2 units.now start }
     {
         let program = &self.compiled.unit_program;
+        let table = self.compiled.unit_table();
         let input = Ucs2Input::new(units, program.flags().is_unicode(), program.tables());
         let (alloc, steps) = (self.alloc, StepsLeft(self.steps));
         find_into_within(
             alloc,
             scratch,
             program,
+            table,
             input,
             Anchored::Yes,
             start,

@@ -1,5 +1,5 @@
 //! Searches in 16-bit units.
-ghost use Rattle.std.specs.Prelude.{◌≡◌, ℕ, IfOk, IfSome, IsErrOf, IsOkUnless, map, option_map};
+ghost use Rattle.std.specs.Prelude.{◌≡◌, ℕ, IfOk, IfSome, IsErrOf, IsOkUnless, map, option_map, false, true, Some};
 ghost use Rattle.regress_meaning.specs.Table.{Table};
 ghost use Rattle.regress_meaning.specs.Pattern.{Pattern};
 ghost use Rattle.regress_meaning.specs.Flags.{Options};
@@ -24,8 +24,8 @@ use regress_match::Match;
 use regress_programs::{Anchored, first_within};
 
 impl<'r> Bounded<'r> {
-    ghost use Rattle.regress_bounded.specs.Coming.{search_by, next_from, coming, budget_of};
-    ghost use Rattle.regress_bounded.specs.Standing.{StandsInUnits, HasTreeInUnits, tree_list_in_units, tree_outcome_in_units, TakesAllInUnits, TakesAllAlongUnits, steps_of, unit_program_of};
+    ghost use Rattle.regress_bounded.specs.Coming.{search_by, next_from, coming, budget_of, turns_of};
+    ghost use Rattle.regress_bounded.specs.Standing.{StandsInUnits, HasTreeInUnits, tree_list_in_units, tree_outcome_in_units, TakesAllInUnits, TakesAllAlongUnits, enough_in_units, may_turn_in_units, steps_of, unit_program_of};
     ghost use Rattle.regress_bounded.specs.Stopping.{seen_by};
     ghost use Rattle.regress_bounded.specs.Together.{CountsAlong};
 
@@ -52,16 +52,19 @@ impl<'r> Bounded<'r> {
             IfOk result (λ ms. coming ms ≡ map (told (of_utf16 units.now)) (tree_list_in_units self.now n t (characters units.now) place)) }
         ensures over { IfOk result (λ ms. (search_by ms).view ≡ seen_by (unit_program_of self.now) utf16 units.now) }
         ensures program { IfOk result (λ ms. (search_by ms).compiled ≡ unit_program_of self.now) }
-        ensures steps { IfOk result (λ ms. budget_of ms ≡ steps_of self.now) }
+        ensures turns { IfOk result (λ ms. turns_of ms ≡ may_turn_in_units self.now units.now) }
+        ensures steps { IfOk result (λ ms. turns_of ms ≡ false → budget_of ms ≡ steps_of self.now) }
+        ensures lowered { IfOk result (λ ms. turns_of ms ≡ true → Some (budget_of ms) ≡ enough_in_units self.now units.now) }
         ensures begins { IfOk result (λ ms. StartsAt (search_by ms) start (next_from ms)) }
-        ensures counted { IfOk result (λ ms. CountsAlong search_by next_from budget_of ms) }
+        ensures counted { IfOk result (λ ms. CountsAlong search_by next_from budget_of turns_of ms) }
         ensures stopped { IfOk result (ErrsOnlyIf ⟦<BoundedMatches<'r, Utf16Input<'r, 't>> as Iterator>⟧.next_gives SearchError.TooManySteps (TakesAllAlongUnits self.now utf16 units.now start)) }
         ensures inside { IfOk result (HoldsOfEach ⟦<BoundedMatches<'r, Utf16Input<'r, 't>> as Iterator>⟧.next_gives (IsMatchInUnits (of_utf16 units.now) units.now)) }
         ensures refused { IsOkUnless result SearchError.OutOfMemory }
     {
         let program = &self.compiled.unit_program;
+        let table = self.compiled.unit_table();
         let input = Utf16Input::new(units, program.flags().is_unicode(), program.tables());
-        Ok(BoundedMatches::new(self.alloc, program, input, start, self.steps))
+        Ok(BoundedMatches::new(self.alloc, program, table, input, start, self.steps))
     }
 
     /// The matches in 16-bit units that are each one character, from `start` on, an offset in units, their ranges told in units,
@@ -86,16 +89,19 @@ impl<'r> Bounded<'r> {
             IfOk result (λ ms. coming ms ≡ map (told (of_ucs2 units.now)) (tree_list_in_units self.now n t units.now place)) }
         ensures over { IfOk result (λ ms. (search_by ms).view ≡ seen_by (unit_program_of self.now) ucs2 units.now) }
         ensures program { IfOk result (λ ms. (search_by ms).compiled ≡ unit_program_of self.now) }
-        ensures steps { IfOk result (λ ms. budget_of ms ≡ steps_of self.now) }
+        ensures turns { IfOk result (λ ms. turns_of ms ≡ may_turn_in_units self.now units.now) }
+        ensures steps { IfOk result (λ ms. turns_of ms ≡ false → budget_of ms ≡ steps_of self.now) }
+        ensures lowered { IfOk result (λ ms. turns_of ms ≡ true → Some (budget_of ms) ≡ enough_in_units self.now units.now) }
         ensures begins { IfOk result (λ ms. StartsAt (search_by ms) start (next_from ms)) }
-        ensures counted { IfOk result (λ ms. CountsAlong search_by next_from budget_of ms) }
+        ensures counted { IfOk result (λ ms. CountsAlong search_by next_from budget_of turns_of ms) }
         ensures stopped { IfOk result (ErrsOnlyIf ⟦<BoundedMatches<'r, Ucs2Input<'r, 't>> as Iterator>⟧.next_gives SearchError.TooManySteps (TakesAllAlongUnits self.now ucs2 units.now start)) }
         ensures inside { IfOk result (HoldsOfEach ⟦<BoundedMatches<'r, Ucs2Input<'r, 't>> as Iterator>⟧.next_gives (IsMatchInUnits (of_ucs2 units.now) units.now)) }
         ensures refused { IsOkUnless result SearchError.OutOfMemory }
     {
         let program = &self.compiled.unit_program;
+        let table = self.compiled.unit_table();
         let input = Ucs2Input::new(units, program.flags().is_unicode(), program.tables());
-        Ok(BoundedMatches::new(self.alloc, program, input, start, self.steps))
+        Ok(BoundedMatches::new(self.alloc, program, table, input, start, self.steps))
     }
 
     /// The match that begins at `start` in units of UTF-16, an offset in units, its ranges told in units, as
@@ -119,9 +125,10 @@ impl<'r> Bounded<'r> {
         ensures stopped { IsErrOf result SearchError.TooManySteps → TakesAllInUnits self.now Yes utf16 units.now start }
     {
         let program = &self.compiled.unit_program;
+        let table = self.compiled.unit_table();
         let input = Utf16Input::new(units, program.flags().is_unicode(), program.tables());
         let (alloc, steps) = (self.alloc, StepsLeft(self.steps));
-        first_within(alloc, program, input, Anchored::Yes, start, steps)
+        first_within(alloc, program, table, input, Anchored::Yes, start, steps)
     }
 
     /// The match that begins at `start` in 16-bit units that are each one character, an offset in units, its ranges told in
@@ -142,8 +149,9 @@ impl<'r> Bounded<'r> {
         ensures stopped { IsErrOf result SearchError.TooManySteps → TakesAllInUnits self.now Yes ucs2 units.now start }
     {
         let program = &self.compiled.unit_program;
+        let table = self.compiled.unit_table();
         let input = Ucs2Input::new(units, program.flags().is_unicode(), program.tables());
         let (alloc, steps) = (self.alloc, StepsLeft(self.steps));
-        first_within(alloc, program, input, Anchored::Yes, start, steps)
+        first_within(alloc, program, table, input, Anchored::Yes, start, steps)
     }
 }

@@ -50,6 +50,11 @@ truth-ok (Ok true) n P e h = subst (λ (z : ℤ). IfCount z (λ k. IsTruthOf k P
 truth-ok (Ok false) n P e h = subst (λ (z : ℤ). IfCount z (λ k. IsTruthOf k P)) (sym e) (((λ one. absurd cc), (λ holds. let yes = h.1 holds in absurd cc)), inl refl)
 truth-ok (Err x) n P e h = subst (λ (z : ℤ). IfCount z (λ k. IsTruthOf k P)) (sym e) tt
 
+-- of one that is told exactly
+pub truth-same : (r : Result Bool CallError) (n : ℤ) (b : Bool) → n ≡ truth_code r → IfOk r (λ told. told ≡ b) → IfCount n (λ k. IsTruthOf k (IsTrue b))
+truth-same (Ok told) n b e h = truth-ok (Ok told) n (IsTrue b) e ((λ yes. subst IsTrue h yes), (λ yes. subst IsTrue (sym h) yes))
+truth-same (Err x) n b e h = truth-ok (Err x) n (IsTrue b) e tt
+
 pub truth-err : (r : Result Bool CallError) (n : ℤ) (Q : CallError → Type 0) → n ≡ truth_code r → IfErr r Q → IfError n Q
 truth-err (Ok true) n Q e h = subst (λ (z : ℤ). IfError z Q) (sym e) tt
 truth-err (Ok false) n Q e h = subst (λ (z : ℤ). IfError z Q) (sym e) tt

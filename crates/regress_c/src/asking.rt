@@ -1,5 +1,5 @@
 //! Exports that ask a pattern, and that copy texts.
-ghost use Rattle.std.specs.Prelude.{◌≡◌, ℕ, List, chars, encode_utf8_all, length, map, take};
+ghost use Rattle.std.specs.Prelude.{◌≡◌, ℕ, IsTrue, List, chars, encode_utf8_all, length, map, take};
 ghost use Rattle.regress_meaning.specs.Flags.{Options};
 ghost use Rattle.regress_meaning.specs.Literal.{escaped_text};
 ghost use Rattle.regress_meaning.specs.Matches.{match_list};
@@ -9,18 +9,21 @@ ghost use Rattle.regress_meaning.specs.Table.{Table};
 ghost use Rattle.regress_replacing.specs.Replacing.{replaced};
 ghost use Rattle.regress_replacing.specs.Substitution.{substitution};
 ghost use Rattle.regress.specs.declared.api.Regex.{Regex as RegexValue};
+ghost use Rattle.regress.specs.Linear.{is_linear};
 ghost use Rattle.regress.specs.Standing.{StandsFor, names_of_regex, source_of};
 ghost use Rattle.regress_calls.specs.declared.call_error.CallError.TheVariants.{NoRoom};
 ghost use Rattle.regress_calls.specs.Codes.{IfCount, IfError};
 ghost use Rattle.regress_calls.specs.Handles.{OfPattern, content};
 ghost use Rattle.regress_calls.specs.Names.{AreWritten, IsNumbered};
-ghost use Rattle.regress_calls.specs.Refusals.{MayRefuseCopyOf, MayRefuseCounted, MayRefuseName};
+ghost use Rattle.regress_calls.specs.Refusals.{MayRefuseCopyOf, MayRefuseCounted, MayRefuseName, MayRefusePattern};
+ghost use Rattle.regress_calls.specs.Stopping.{IsEnough};
+ghost use Rattle.regress_c.specs.Checked.{IsTruthOf};
 ghost use Rattle.regress_c.specs.Copied.{IsCopiedBy, MayRefuseChecked, MayRefuseCheckedCopy, MayRefuseCheckedCopyOf};
 
-use crate::codes::{count_code, done_code};
+use crate::codes::{count_code, done_code, truth_code};
 use regress_calls::{
-    CallError, Slot, error_text, escape, group_count, group_name, group_numbers, pattern_text,
-    replace, replace_all, utf8,
+    CallError, Slot, error_text, escape, group_count, group_name, group_numbers, is_linear,
+    linear_steps, pattern_text, replace, replace_all, utf8,
 };
 use std::alloc::Global;
 
@@ -32,6 +35,33 @@ pub extern "C" fn regress_raw_group_count(alloc: Global, pattern: &mut Slot) -> 
     ensures refused { IfError result (MayRefuseCounted (content pattern.old.held)) }
 {
     count_code(group_count(alloc, pattern))
+}
+
+/// Whether a pattern is known to be linear: 1, or 0.
+#[unsafe(no_mangle)]
+pub extern "C" fn regress_raw_is_linear(alloc: Global, pattern: &mut Slot) -> i32
+    ensures linear { (r : RegexValue) → content pattern.old.held ≡ OfPattern r → IfCount result (λ count. IsTruthOf count (IsTrue (is_linear r))) }
+    ensures kept { content pattern.new.held ≡ content pattern.old.held }
+    ensures refused { IfError result (MayRefusePattern (content pattern.old.held)) }
+{
+    truth_code(is_linear(alloc, pattern))
+}
+
+/// Writes how many steps are enough for each search in a text of so many bytes or 16-bit units, or of fewer. `regress_calls::linear_steps`
+/// says what it writes.
+#[unsafe(no_mangle)]
+pub extern "C" fn regress_raw_linear_steps(
+    alloc: Global,
+    pattern: &mut Slot,
+    units: usize,
+    steps: &mut usize,
+) -> i32
+    ensures enough { (r : RegexValue) → content pattern.old.held ≡ OfPattern r → IfCount result (λ _. IsEnough r units steps.new) }
+    ensures untouched { IfError result (λ _. steps.new ≡ steps.old) }
+    ensures kept { content pattern.new.held ≡ content pattern.old.held }
+    ensures refused { IfError result (MayRefusePattern (content pattern.old.held)) }
+{
+    done_code(linear_steps(alloc, pattern, units, steps))
 }
 
 /// Copies the text of a pattern.

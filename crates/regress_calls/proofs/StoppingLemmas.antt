@@ -1,31 +1,35 @@
 -- When the bound of a search stops it.
-use Rattle.std.specs.Prelude.{◌≡◌, ℕ, List, Option}
+use Rattle.std.specs.Prelude.{◌≡◌, ℕ, List, Option, Some}
 use Rattle.std.proofs.Common.{refl, sym, subst}
 use Rattle.regress_engine_input.specs.Views.{Kind}
 use Rattle.regress_engine_exec.specs.declared.error.SearchError.{SearchError}
 use Rattle.regress_engine_exec.specs.declared.error.SearchError.TheVariants as search
 use Rattle.regress_programs.specs.declared.compiled.Compiled.{Compiled}
 use Rattle.regress_programs.specs.declared.slots.Anchored.{Anchored}
+use Rattle.regress_programs.specs.Counting.{Stops}
+use Rattle.regress_programs.specs.Tables.{byte_table_of, unit_table_of}
 use Rattle.regress_bounded.specs.declared.bounded.Bounded.{Bounded}
 use Rattle.regress_bounded.specs.Standing.{TakesAllInBytes, TakesAllInUnits, compiled_of, steps_of}
-use Rattle.regress_bounded.specs.Stopping.{TakesAll, seen_by}
+use Rattle.regress_bounded.specs.Stopping.{seen_by}
 use Rattle.regress.specs.declared.api.Regex.{Regex}
 use Rattle.regress_calls.specs.Codes.{of_search_error}
 use Rattle.regress_calls.specs.Handles.{OfSearch}
 use Rattle.regress_calls.specs.Refusals.{MayRefuseSearch}
 use Rattle.regress_calls.specs.Stopping.{IsStopped}
 
--- A regex with a number of steps takes all of them where the same programs do with as many.
+-- A regex with a number of steps stops a search where the same programs do with as many.
 module _ (r : Regex) (b : Bounded) (steps : ℕ) (same : compiled_of b ≡ r.compiled) (many : steps_of b ≡ steps) (anchored : Anchored) (kind : Kind) (units : List ℕ) (at : ℕ) where
-  pub all-in-bytes : TakesAllInBytes b anchored kind units at → TakesAll anchored r.compiled.byte_program (seen_by r.compiled.byte_program kind units) at steps
+  pub all-in-bytes : TakesAllInBytes b anchored kind units at
+      → Stops (byte_table_of r.compiled) anchored r.compiled.byte_program (seen_by r.compiled.byte_program kind units) at (Some steps)
   all-in-bytes takes =
-      subst (λ (x : Compiled). TakesAll anchored x.byte_program (seen_by x.byte_program kind units) at steps) same
-      (subst (λ (n : ℕ). TakesAll anchored (compiled_of b).byte_program (seen_by (compiled_of b).byte_program kind units) at n) many takes)
+      subst (λ (x : Compiled). Stops (byte_table_of x) anchored x.byte_program (seen_by x.byte_program kind units) at (Some steps)) same
+      (subst (λ (n : ℕ). Stops (byte_table_of (compiled_of b)) anchored (compiled_of b).byte_program (seen_by (compiled_of b).byte_program kind units) at (Some n)) many takes)
 
-  pub all-in-units : TakesAllInUnits b anchored kind units at → TakesAll anchored r.compiled.unit_program (seen_by r.compiled.unit_program kind units) at steps
+  pub all-in-units : TakesAllInUnits b anchored kind units at
+      → Stops (unit_table_of r.compiled) anchored r.compiled.unit_program (seen_by r.compiled.unit_program kind units) at (Some steps)
   all-in-units takes =
-      subst (λ (x : Compiled). TakesAll anchored x.unit_program (seen_by x.unit_program kind units) at steps) same
-      (subst (λ (n : ℕ). TakesAll anchored (compiled_of b).unit_program (seen_by (compiled_of b).unit_program kind units) at n) many takes)
+      subst (λ (x : Compiled). Stops (unit_table_of x) anchored x.unit_program (seen_by x.unit_program kind units) at (Some steps)) same
+      (subst (λ (n : ℕ). Stops (unit_table_of (compiled_of b)) anchored (compiled_of b).unit_program (seen_by (compiled_of b).unit_program kind units) at (Some n)) many takes)
 
 -- what stops a search stops it where the same is held, and the search begins at the same offset
 pub still-stopped : (r s : Regex) (bound other : Option ℕ) (anchored : Anchored) (kind : Kind) (units : List ℕ) (at next : ℕ) → r ≡ s → bound ≡ other → next ≡ at

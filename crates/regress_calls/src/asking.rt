@@ -1,5 +1,5 @@
 //! What is asked of the pattern that a handle holds, and texts that are copied to a caller.
-ghost use Rattle.std.specs.Prelude.{◌≡◌, ◌≤◌, ℕ, List, IfOk, IfErr, OnErr, chars, encode_utf8_all, length, map, take};
+ghost use Rattle.std.specs.Prelude.{◌≡◌, ◌≤◌, ℕ, List, IfOk, IfErr, OnErr, OnOk, chars, encode_utf8_all, length, map, take};
 ghost use Rattle.regress_meaning.specs.Flags.{Options};
 ghost use Rattle.regress_meaning.specs.Literal.{escaped_text};
 ghost use Rattle.regress_meaning.specs.Matches.{match_list};
@@ -9,11 +9,13 @@ ghost use Rattle.regress_meaning.specs.Table.{Table};
 ghost use Rattle.regress_replacing.specs.Replacing.{replaced};
 ghost use Rattle.regress_replacing.specs.Substitution.{substitution};
 ghost use Rattle.regress.specs.declared.api.Regex.{Regex as RegexValue};
+ghost use Rattle.regress.specs.Linear.{is_linear};
 ghost use Rattle.regress.specs.Standing.{StandsFor, names_of_regex, source_of};
 ghost use Rattle.regress_calls.specs.Buffers.{IsCopied, IsCopiedIfMade};
 ghost use Rattle.regress_calls.specs.Handles.{OfPattern, content};
 ghost use Rattle.regress_calls.specs.Names.{IsNumbered, AreWritten};
-ghost use Rattle.regress_calls.specs.Refusals.{MayRefuseCopy, MayRefuseCopyOf, MayRefuseCounted, MayRefuseName};
+ghost use Rattle.regress_calls.specs.Refusals.{MayRefuseCopy, MayRefuseCopyOf, MayRefuseCounted, MayRefuseName, MayRefusePattern};
+ghost use Rattle.regress_calls.specs.Stopping.{IsEnough};
 
 use crate::buffer::copy_text;
 use crate::call_error::{CallError, text_of_code};
@@ -38,6 +40,35 @@ pub fn group_count(alloc: Global, slot: &mut Slot) -> Result<usize, CallError>
         return Err(CallError::TooManyGroups);
     }
     Ok(count)
+}
+
+/// Whether the pattern that a handle holds is known to be linear, as `Regex::is_linear` tells it.
+pub fn is_linear(alloc: Global, slot: &mut Slot) -> Result<bool, CallError>
+    ensures linear { (r : RegexValue) → content slot.old.held ≡ OfPattern r → IfOk result (λ known. known ≡ is_linear r) }
+    ensures kept { content slot.new.held ≡ content slot.old.held }
+    ensures refused { IfErr result (MayRefusePattern (content slot.old.held)) }
+{
+    let regex = pattern_in(alloc, slot)?;
+    Ok(regex.is_linear())
+}
+
+/// Writes how many steps are enough for each search in a text of so many bytes or 16-bit units, or of fewer, as `Regex::linear_steps`
+/// tells it: a search with such a bound is never refused as `TooManySteps` there. Writes the greatest number, which stands for no
+/// bound, where the pattern isn't known to be linear, and where the text is too long.
+pub fn linear_steps(
+    alloc: Global,
+    slot: &mut Slot,
+    units: usize,
+    steps: &mut usize,
+) -> Result<(), CallError>
+    ensures enough { (r : RegexValue) → content slot.old.held ≡ OfPattern r → OnOk result (IsEnough r units steps.new) }
+    ensures untouched { OnErr result (steps.new ≡ steps.old) }
+    ensures kept { content slot.new.held ≡ content slot.old.held }
+    ensures refused { IfErr result (MayRefusePattern (content slot.old.held)) }
+{
+    let regex = pattern_in(alloc, slot)?;
+    *steps = regex.linear_steps(units).unwrap_or(usize::MAX);
+    Ok(())
 }
 
 /// Copies the text of the pattern that a handle holds, as `Regex::as_str` has it.

@@ -17,7 +17,8 @@ mod text;
 mod text_range;
 
 pub use asking::{
-    error_text, escape, group_count, group_name, group_numbers, pattern_text, replace, replace_all,
+    error_text, escape, group_count, group_name, group_numbers, is_linear, linear_steps,
+    pattern_text, replace, replace_all,
 };
 pub use buffer::copy_text;
 pub use call_error::{CallError, text_of_code};

@@ -1,5 +1,5 @@
-//! The engine by one name: texts as inputs, programs and what makes them, searches, and both executors. A layer above names this
-//! crate and `regress_front` alone.
+//! The engine by one name: texts as inputs, programs and what makes them, searches, and both executors. Who wants all of it names
+//! this crate and `regress_front` alone.
 //!
 //! ```rust
 //! use regress_engine::{BacktrackExecutor, emit};

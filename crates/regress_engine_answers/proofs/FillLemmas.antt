@@ -28,8 +28,8 @@ use Rattle.regress_engine_memory.proofs.Taking.{advance-takes, one-takes, taking
 use Rattle.regress_engine_linear.specs.Answered.{AreExitsRight, IsAnswered, answer_at, exits_at, exits_value_at, one_at, one_beyond}
 use Rattle.regress_engine_answers.specs.AnswerTables.{exits_by, told_by}
 use Rattle.regress_engine_answers.specs.Filled.{IsExitRight, IsFilled, IsPast, IsRight, way_of}
-use Rattle.regress_engine_linear.specs.Linear.{IsDue, IsLinear}
-use Rattle.regress_engine_linear.specs.Ranks.{Ranking, AreRunning, AreUnbounded, Inside, IsBeyond, Ranks}
+use Rattle.regress_engine_linear.specs.Linear.{IsDue, IsLinear, too_long}
+use Rattle.regress_engine_linear.specs.Ranks.{Ranking, AreRunning, AreUnboundedOrOnce, Inside, IsBeyond, Ranks}
 use Rattle.regress_engine_linear.specs.RankTables.{Heights, forward_at, rank_at, ranking_of}
 use Rattle.regress_engine_answers.specs.declared.answers.Answers.{Answers}
 use Rattle.regress_engine_linear.proofs.AnswerLemmas.{answers-by, look-answers}
@@ -58,15 +58,15 @@ room-end last Forward o low = omega arith
 room-end last Backward o low = omega (arith, low)
 
 module _ (flow : Flow) (h : Heights) (v : View) (all : AreOfKind v.kind v.units) (program : Program) (suits : Suits program v) (linear : IsLinear flow h program)
-    (short : suc (length v.units) < 2 ^ 64 - 1) where
+    (short : suc (length v.units) < too_long) where
   abbrev last : ℕ
   last = length v.units
 
   abbrev r : Ranking
   r = ranking_of h
 
-  pub unbounded : AreUnbounded last program
-  unbounded at f here = let most = linear.unbounded at f here in omega (arith, most, short)
+  pub unbounded : AreUnboundedOrOnce last program
+  unbounded at f here = elim (linear.unbounded at f here) [ inl most ↦ inl (omega (arith, most, short)) | inr once ↦ inr once ]
 
   pub stands-within : (at : ℕ) (i : Instruction) → Stands program at i → at < length program.instructions
   stands-within at i here = slice_get_within program.instructions at i here

@@ -12,7 +12,7 @@ use Rattle.regress_engine_memory.specs.Flow.{Flow}
 use Rattle.regress_engine_answers.specs.AnswerTables.{exits_by, told_by}
 use Rattle.regress_engine_answers.specs.Filled.{AreRight, IsFilled, IsPast, IsRight, way_of}
 use Rattle.regress_engine_linear.specs.Places.{IsBehind, offset_of}
-use Rattle.regress_engine_linear.specs.Linear.{IsDue, IsLinear}
+use Rattle.regress_engine_linear.specs.Linear.{IsDue, IsLinear, too_long}
 use Rattle.regress_engine_linear.specs.RankTables.{Heights, forward_at, rank_at}
 use Rattle.regress_engine_answers.specs.declared.answers.Answers.{Answers}
 use Rattle.regress_engine_answers.specs.Walked.{AreExitsKnown}
@@ -43,7 +43,7 @@ step-within last n true step end less = omega (arith, end)
 step-within last n false step end less = omega (arith, end, less)
 
 module _ (flow : Flow) (h : Heights) (v : View) (all : AreOfKind v.kind v.units) (program : Program) (suits : Suits program v) (linear : IsLinear flow h program)
-    (short : suc (length v.units) < 2 ^ 64 - 1) where
+    (short : suc (length v.units) < too_long) where
   abbrev last : ℕ
   last = length v.units
 

@@ -45,7 +45,7 @@ use Rattle.regress_engine_linear.specs.RankTables.{ArePlaced, Heights, forward_a
 use Rattle.regress_engine_linear.specs.Answered.{Ends, IsAnswered, ReadsAlong, is_single, one_at}
 use Rattle.regress_engine_answers.specs.AnswerTables.{exits_by, told_by}
 use Rattle.regress_engine_answers.specs.Filled.{AreRight, IsExitRight}
-use Rattle.regress_engine_linear.specs.Linear.{IsLinear, LeavesGroups}
+use Rattle.regress_engine_linear.specs.Linear.{IsLinear, LeavesGroups, too_long}
 use Rattle.regress_engine_answers.specs.Walked.{AreExitsKnown, AreExitsTold, IsOnWay, MayWalk, again_at, either_of, exit_at, first_at, first_of, last_at, led, marked, station_at, written_by}
 use Rattle.regress_engine_answers.specs.declared.answers.Answers.{Answers}
 use Rattle.regress_engine_answers.specs.declared.walking.Station.{Station}
@@ -324,7 +324,7 @@ exits-told-of flow h program v a at right all forward least most greedy i here t
         same (Some q) = ap (one_at (told_by a) (at + 2)) (ones-free program (input_of v) i Forward [] gs calm (length v.units) q)
 
 -- a linear program may be walked, where a table tells what is so
-pub may-walk : (flow : Flow) (h : Heights) (program : Program) (v : View) (a : Answers) → IsLinear flow h program → suc (length v.units) < 2 ^ 64 - 1 → AreRight flow h program v a
+pub may-walk : (flow : Flow) (h : Heights) (program : Program) (v : View) (a : Answers) → IsLinear flow h program → suc (length v.units) < too_long → AreRight flow h program v a
     → AreExitsKnown flow h program v a → 0 < length program.instructions → MayWalk flow h program v a
 may-walk flow h program v a linear short right exits there =
     let count = linear.count in
@@ -332,7 +332,7 @@ may-walk flow h program v a linear short right exits there =
       closed = linear.flows;
       ranked = linear.ranked;
       placed = subst (ArePlaced h) (sym linear.count) linear.placed;
-      unbounded = λ at f here. let most = linear.unbounded at f here in omega (arith, most, short);
+      unbounded = λ at f here. elim (linear.unbounded at f here) [ inl most ↦ inl (omega (arith, most, short)) | inr once ↦ inr once ];
       leaves = linear.leaves;
       there = omega (arith, count, there);
       calm = linear.calm 0 there;
@@ -473,6 +473,26 @@ module _ (flow : Flow) (h : Heights) (v : View) (all : AreOfKind v.kind v.units)
             subst (λ (b : Bool). P (ordered f.greedy true b one (record t { at = f.exit }))) out-is
             (subst (λ (b : Bool). P (ordered f.greedy b (nat_le f.least (count_of f.loop_id t)) one (record t { at = f.exit }))) more-is x)
 
+    -- of the exit alone
+    outward : (greedy : Bool) (one exit : Whole) → AllByRecursion Good (ordered greedy false true one exit) → Rest (ordered greedy false true one exit) → Good exit × Rest (exit ∷ [])
+    outward true one exit good rest = (good.0, rest)
+    outward false one exit good rest = (good.0, rest)
+
+    -- where an iteration ends
+    goes-on : (f : LoopFields) (begin : ℕ) (t : Whole) (more : Bool) → nat_lt (count_of f.loop_id t) f.most ≡ more → nat_le f.least (count_of f.loop_id t) ≡ true
+        → AllByRecursion Good (choices f begin t) → Rest (choices f begin t) → Comes (if more then either_of told f.greedy t.offset (suc begin) f.exit else f.exit) t.offset t.groups
+    goes-on f begin t true more-is out-is good rest = chosen f begin t true more-is out-is good rest
+    goes-on f begin t false more-is out-is good rest =
+        let (fine, on) = outward f.greedy one (record t { at = f.exit }) (by_tests (AllByRecursion Good) good) (by_tests Rest rest) in (t.loops, on, fine)
+      where
+        one : Whole
+        one = one_more f.loop_id begin t
+
+        by_tests : (P : List Whole → Type 0) → P (choices f begin t) → P (ordered f.greedy false true one (record t { at = f.exit }))
+        by_tests P x =
+            subst (λ (b : Bool). P (ordered f.greedy false b one (record t { at = f.exit }))) out-is
+            (subst (λ (b : Bool). P (ordered f.greedy b (nat_le f.least (count_of f.loop_id t)) one (record t { at = f.exit }))) more-is x)
+
     -- of the exits of a one-character loop
     each-goes : (to : ℕ) (ls : List (ℕ × ℕ)) (gs : List Marks) (os : List ℕ) → AllByRecursion Good (at_each program input to ls gs os) → Rest (at_each program input to ls gs os)
         → Leads (station_at to (first_at told to os)) gs
@@ -513,7 +533,7 @@ module _ (flow : Flow) (h : Heights) (v : View) (all : AreOfKind v.kind v.units)
     enters : (f : LoopFields) → Stands program at (code.enter_loop f) → AllByRecursion GoodHere (choices f at (entered input Forward f s)) → Rest w s (choices f at (entered input Forward f s))
         → LeadsOn (code.enter_loop f)
     enters f here good rest =
-        chosen w s f at (entered input Forward f s) (nat_le f.least 0) (ap (λ n. nat_lt n f.most) none ∙ lt-ltb 0 f.most (omega (arith, most))) (ap (nat_le f.least) none) good rest
+        chosen w s f at (entered input Forward f s) (nat_le f.least 0) (ap (λ n. nat_lt n f.most) none ∙ some) (ap (nat_le f.least) none) good rest
       where
         begun : ℕ × ℕ
         begun = (surplus f.least (room (length input.units) Forward o), o)
@@ -521,8 +541,8 @@ module _ (flow : Flow) (h : Heights) (v : View) (all : AreOfKind v.kind v.units)
         cycle : IsCycle flow r at at f
         cycle = may.ranked at (code.enter_loop f) way.running.calm here
 
-        most : suc last < f.most
-        most = may.unbounded at f here
+        some : nat_lt 0 f.most ≡ true
+        some = lt-ltb 0 f.most (elim (may.unbounded at f here) [ inl most ↦ omega (arith, most) | inr once ↦ omega (arith, once) ])
 
         none : count_of f.loop_id (entered input Forward f s) ≡ 0
         none =
@@ -544,7 +564,7 @@ module _ (flow : Flow) (h : Heights) (v : View) (all : AreOfKind v.kind v.units)
             let one = busy flow r last program input may.closed may.ranked may.unbounded Forward f at begin o (get_or way.loops f.loop_id (0, 0)) there cycle (way.running.loops f.loop_id live-too) in
             let are = again-successors program input Forward s begin f there in
             subst (λ (x : Option Instruction). Leads w s (again_at told o begin (fields_of x)) gs) (sym there)
-            (chosen w s f begin s true one.1 one.2 (by_idle f (AllByRecursion GoodHere) are one.0 good) (by_idle f (Rest w s) are one.0 rest))
+            (goes-on w s f begin s (nat_lt 1 f.most) one.1 one.2 (by_idle f (AllByRecursion GoodHere) are one.0 good) (by_idle f (Rest w s) are one.0 rest))
           where
             by_idle : (f : LoopFields) (P : List Whole → Type 0) → successors program input (code.loop_again begin) Forward s ≡ (if is_idle f s then [] else choices f begin s)
                 → is_idle f s ≡ false → P (successors program input (code.loop_again begin) Forward s) → P (choices f begin s)

@@ -1,5 +1,5 @@
 -- The way along what is told to have an answer.
-use Rattle.std.specs.Prelude.{◌≡◌, ℕ, suc, ◌-◌, ◌<◌, ◌≤◌, Bool, true, false, List, [], ◌∷◌, length, Option, Some, None, if◌then◌else◌, get_or, nat_le, slice_get, slice_set}
+use Rattle.std.specs.Prelude.{◌≡◌, ℕ, suc, ◌-◌, ◌<◌, ◌≤◌, Bool, true, false, List, [], ◌∷◌, length, Option, Some, None, if◌then◌else◌, get_or, nat_le, nat_lt, slice_get, slice_set}
 use Rattle.regress_meaning.specs.Meaning.{Direction, Forward}
 use Rattle.regress_meaning.specs.Inputs.{Input}
 use Rattle.regress_front_nodes.specs.Trees.{Submatch}
@@ -12,7 +12,7 @@ use Rattle.regress_engine_runs.specs.Runs.{Run, advance, after_times, fields_of,
 use Rattle.regress_engine_runs.specs.States.{Marks, Whole, begun, ended, unset}
 use Rattle.regress_engine_runs.specs.UndoStack.{whole}
 use Rattle.regress_engine_memory.specs.Flow.{Flow, IsFlow}
-use Rattle.regress_engine_linear.specs.Ranks.{AreRanked, AreRunning, AreUnbounded}
+use Rattle.regress_engine_linear.specs.Ranks.{AreRanked, AreRunning, AreUnboundedOrOnce}
 use Rattle.regress_engine_linear.specs.RankTables.{ArePlaced, Heights, forward_at, ranking_of}
 use Rattle.regress_engine_linear.specs.Answered.{ReadsAlong, one_at}
 use Rattle.regress_engine_answers.specs.AnswerTables.{exits_by, told_by}
@@ -60,7 +60,7 @@ module _ (told : ℕ → ℕ → Bool) where
   -- where an iteration ends
   abbrev pub again_at : (o begin : ℕ) → Option LoopFields → Option Station
   again_at o begin None = None
-  again_at o begin (Some f) = Some (station (either_of f.greedy o (suc begin) f.exit) o)
+  again_at o begin (Some f) = Some (station (if nat_lt 1 f.most then either_of f.greedy o (suc begin) f.exit else f.exit) o)
 
   -- the first of some offsets that is told of at an address
   abbrev pub first_at : (at : ℕ) → List ℕ → Option ℕ
@@ -117,7 +117,7 @@ pub record MayWalk (flow : Flow) (h : Heights) (program : Program) (v : View) (a
   pub closed : IsFlow flow program
   pub ranked : AreRanked flow (ranking_of h) program
   pub placed : ArePlaced h (length h.ranks)
-  pub unbounded : AreUnbounded (length v.units) program
+  pub unbounded : AreUnboundedOrOnce (length v.units) program
   pub leaves : (at first last continuation : ℕ) (kind : Submatch) → Stands program at (code.submatch kind first last continuation) → LeavesGroups kind first last
   pub there : 0 < length h.ranks
   pub calm : flow.calm 0 ≡ true

@@ -122,14 +122,15 @@ impl<'a, Input: ExecutorInput> Answering<'a, Input> {
         &insns[at]
     }
 
-    /// Whether a repetition that begins at an address goes on where runs have an answer, from where it begins or where an iteration ends.
+    /// Whether a repetition that begins at an address goes on where runs have an answer, where an iteration ends: with one more iteration, if
+    /// it has more than one, or behind it.
     fn again(&self, answers: &Answers, begin: usize, offset: usize) -> bool
         requires { begin + 1 < 2 ^ 64 }
         ensures { result ≡ again (told_by answers.now) offset begin (fields_of (slice_get (program_of self.now.program.now).instructions begin)) }
     {
         match self.program.insns().get(begin) {
             Some(Insn::EnterLoop(repetition)) => {
-                answers.are_told(begin + 1, offset)
+                (repetition.max_iters > 1 && answers.are_told(begin + 1, offset))
                     || answers.are_told(repetition.exit as usize, offset)
             }
             _ => false,

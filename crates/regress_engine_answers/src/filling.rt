@@ -9,7 +9,7 @@ ghost use Rattle.regress_engine_answers.specs.AnswerTables.{IsSized, exits_by, i
 ghost use Rattle.regress_engine_answers.specs.Filled.{AreRight, IsFilled};
 ghost use Rattle.regress_engine_linear.specs.Places.{IsAwaited, IsBehind, IsNextPlace, offset_of};
 ghost use Rattle.regress_engine_answers.specs.Walked.{AreExitsKnown};
-ghost use Rattle.regress_engine_linear.specs.Linear.{IsLinear};
+ghost use Rattle.regress_engine_linear.specs.Linear.{IsLinear, too_long};
 ghost use Rattle.regress_engine_linear.specs.LinearViews.{flow_in, heights_in};
 
 use crate::answers::{Answering, Answers};
@@ -86,7 +86,7 @@ impl<'a, Input: ExecutorInput> Answering<'a, Input> {
         requires suits { Suits (program_of self.now.program.now) (Input.view self.now.input) }
         requires groups { length self.now.groups.now ≡ (program_of self.now.program.now).groups }
         requires linear { IsLinear (flow_in table.now) (heights_in table.now) (program_of self.now.program.now) }
-        requires short { suc (length (Input.view self.now.input).units) < 2 ^ 64 - 1 }
+        requires short { suc (length (Input.view self.now.input).units) < too_long }
         requires within { rank < length (heights_in table.now).order }
         requires lies { offset ≤ length (Input.view self.now.input).units }
         requires place { is_place ≡ true → IsAtPlace (reading_of (Input.view self.now.input)) offset }
@@ -118,7 +118,7 @@ impl<'a, Input: ExecutorInput> Answering<'a, Input> {
         requires suits { Suits (program_of self.now.program.now) (Input.view self.now.input) }
         requires groups { length self.now.groups.now ≡ (program_of self.now.program.now).groups }
         requires linear { IsLinear (flow_in table.now) (heights_in table.now) (program_of self.now.program.now) }
-        requires short { suc (length (Input.view self.now.input).units) < 2 ^ 64 - 1 }
+        requires short { suc (length (Input.view self.now.input).units) < too_long }
         requires lies { offset ≤ length (Input.view self.now.input).units }
         requires place { is_place ≡ true → IsAtPlace (reading_of (Input.view self.now.input)) offset }
         requires apart { is_place ≡ false → IsAtPlace (reading_of (Input.view self.now.input)) offset → ⊥ }
@@ -157,7 +157,7 @@ impl<'a, Input: ExecutorInput> Answering<'a, Input> {
         requires suits { Suits (program_of self.now.program.now) (Input.view self.now.input) }
         requires groups { length self.now.groups.now ≡ (program_of self.now.program.now).groups }
         requires linear { IsLinear (flow_in table.now) (heights_in table.now) (program_of self.now.program.now) }
-        requires short { suc (length (Input.view self.now.input).units) < 2 ^ 64 - 1 }
+        requires short { suc (length (Input.view self.now.input).units) < too_long }
         requires lies { offset ≤ length (Input.view self.now.input).units }
         requires awaited { IsAwaited (Input.view self.now.input) (direction_of forward) offset place.old }
         requires sized { IsSized (program_of self.now.program.now) answers.old }
@@ -186,7 +186,7 @@ impl<'a, Input: ExecutorInput> Answering<'a, Input> {
         requires suits { Suits (program_of self.now.program.now) (Input.view self.now.input) }
         requires groups { length self.now.groups.now ≡ (program_of self.now.program.now).groups }
         requires linear { IsLinear (flow_in table.now) (heights_in table.now) (program_of self.now.program.now) }
-        requires short { suc (length (Input.view self.now.input).units) < 2 ^ 64 - 1 }
+        requires short { suc (length (Input.view self.now.input).units) < too_long }
         requires sized { IsSized (program_of self.now.program.now) answers.old }
         requires filled { IsFilled (flow_in table.now) (heights_in table.now) (program_of self.now.program.now) (Input.view self.now.input) answers.old forward 0
             (offset_of forward (length (Input.view self.now.input).units) 0) }
@@ -212,7 +212,7 @@ impl<'a, Input: ExecutorInput> Answering<'a, Input> {
         requires suits { Suits (program_of self.now.program.now) (Input.view self.now.input) }
         requires groups { length self.now.groups.now ≡ (program_of self.now.program.now).groups }
         requires linear { IsLinear (flow_in table.now) (heights_in table.now) (program_of self.now.program.now) }
-        requires short { suc (length (Input.view self.now.input).units) < 2 ^ 64 - 1 }
+        requires short { suc (length (Input.view self.now.input).units) < too_long }
         ensures right { IfOk result (AreRight (flow_in table.now) (heights_in table.now) (program_of self.now.program.now) (Input.view self.now.input)) }
         ensures exits { IfOk result (AreExitsKnown (flow_in table.now) (heights_in table.now) (program_of self.now.program.now) (Input.view self.now.input)) }
     {

@@ -5,7 +5,7 @@ ghost use Rattle.regress_engine_input.specs.Views.{input_of, reading_of};
 ghost use Rattle.regress_engine_runs.specs.Meets.{IsAtPlace};
 ghost use Rattle.regress_engine_search.specs.Answering.{IsAnswer, IsFound};
 ghost use Rattle.regress_engine_search.specs.StateViews.{marks_of};
-ghost use Rattle.regress_engine_linear.specs.Linear.{IsLinear};
+ghost use Rattle.regress_engine_linear.specs.Linear.{IsLinear, too_long};
 ghost use Rattle.regress_engine_linear.specs.LinearViews.{flow_in, heights_in};
 ghost use Rattle.regress_engine_answers.specs.Searched.{IsTold, StepsTo, from_start};
 
@@ -48,7 +48,7 @@ impl TextTable {
         context: &SearchContext<'_, Input>,
     ) -> Result<TextTable, AllocError>
         requires linear { IsLinear (flow_in table.now) (heights_in table.now) (program_of context.now.program.now) }
-        requires short { suc (length (Input.view context.now.input).units) < 2 ^ 64 - 1 }
+        requires short { suc (length (Input.view context.now.input).units) < too_long }
         ensures { IfOk result (IsTold table.now (program_of context.now.program.now) (Input.view context.now.input)) }
     {
         let blank = blank_groups(alloc, context.program.groups() as usize)?;
@@ -78,7 +78,7 @@ impl TextTable {
         steps: &mut usize,
     ) -> Result<Option<usize>, AllocError>
         requires linear { IsLinear (flow_in table.now) (heights_in table.now) (program_of context.now.program.now) }
-        requires short { suc (length (Input.view context.now.input).units) < 2 ^ 64 - 1 }
+        requires short { suc (length (Input.view context.now.input).units) < too_long }
         requires told { IsTold table.now (program_of context.now.program.now) (Input.view context.now.input) self.now }
         requires place { IsAtPlace (reading_of (Input.view context.now.input)) start }
         ensures answer { IfOk result (λ found. IsAnswer (program_of context.now.program.now) (input_of (Input.view context.now.input)) start found (map marks_of groups.new.items)) }
@@ -113,7 +113,7 @@ impl TextTable {
         steps: &mut usize,
     ) -> Result<Option<(usize, usize)>, AllocError>
         requires linear { IsLinear (flow_in table.now) (heights_in table.now) (program_of context.now.program.now) }
-        requires short { suc (length (Input.view context.now.input).units) < 2 ^ 64 - 1 }
+        requires short { suc (length (Input.view context.now.input).units) < too_long }
         requires told { IsTold table.now (program_of context.now.program.now) (Input.view context.now.input) self.now }
         requires place { IsAtPlace (reading_of (Input.view context.now.input)) offset }
         ensures found { IfOk result (λ found. IsFound (program_of context.now.program.now) (input_of (Input.view context.now.input)) offset found (map marks_of groups.new.items)) }

@@ -16,7 +16,7 @@ ghost use Rattle.regress_engine_search.specs.StateViews.{marks_of};
 ghost use Rattle.regress_engine_linear.specs.Answered.{is_single};
 ghost use Rattle.regress_engine_answers.specs.AnswerTables.{exits_by, told_by};
 ghost use Rattle.regress_engine_answers.specs.Filled.{AreRight};
-ghost use Rattle.regress_engine_linear.specs.Linear.{IsLinear};
+ghost use Rattle.regress_engine_linear.specs.Linear.{IsLinear, too_long};
 ghost use Rattle.regress_engine_linear.specs.LinearViews.{flow_in, heights_in};
 ghost use Rattle.regress_engine_answers.specs.Walked.{AreExitsKnown, AreExitsTold, again_at, either_of, exit_at, first_at, first_of, last_at, led, marked, station_at, written_by};
 
@@ -187,7 +187,11 @@ impl<'a, Input: ExecutorInput> Answering<'a, Input> {
             Some(Insn::EnterLoop(repetition)) => {
                 let more = begin + 1;
                 let exit = repetition.exit as usize;
-                let at = answers.either_of(repetition.greedy, offset, more, exit);
+                let at = if repetition.max_iters > 1 {
+                    answers.either_of(repetition.greedy, offset, more, exit)
+                } else {
+                    exit
+                };
                 Some(Station { at, offset })
             }
             _ => None,
@@ -406,7 +410,7 @@ impl<'a, Input: ExecutorInput> Answering<'a, Input> {
         requires suits { Suits (program_of self.now.program.now) (Input.view self.now.input) }
         requires groups { length self.now.groups.now ≡ (program_of self.now.program.now).groups }
         requires linear { IsLinear (flow_in table.now) (heights_in table.now) (program_of self.now.program.now) }
-        requires short { suc (length (Input.view self.now.input).units) < 2 ^ 64 - 1 }
+        requires short { suc (length (Input.view self.now.input).units) < too_long }
         requires begins { 0 < length (program_of self.now.program.now).instructions }
         requires right { AreRight (flow_in table.now) (heights_in table.now) (program_of self.now.program.now) (Input.view self.now.input) answers.now }
         requires exits { AreExitsKnown (flow_in table.now) (heights_in table.now) (program_of self.now.program.now) (Input.view self.now.input) answers.now }

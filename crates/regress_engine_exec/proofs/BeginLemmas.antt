@@ -1,5 +1,5 @@
 -- Where a run that begins behind what takes nothing comes to.
-use Rattle.std.proofs.Common.{◌≡◌, ℕ, true, inl, inr, sym, subst}
+use Rattle.std.proofs.Common.{ℕ, true, inl, inr, sym, subst}
 use Rattle.regress_meaning.specs.Inputs.{Input}
 use Rattle.regress_engine_insn.specs.Instructions.{Program}
 use Rattle.regress_engine_search.specs.Tasks.{Leads}

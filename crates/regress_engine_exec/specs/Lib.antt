@@ -1,3 +1,4 @@
 pub mod Searches
 pub mod Counting
 pub mod ErrorTexts
+pub mod Turned

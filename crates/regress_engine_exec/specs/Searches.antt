@@ -1,5 +1,5 @@
 -- What an executor searches, and what it holds.
-use Rattle.std.specs.Prelude.{ℕ, List, map}
+use Rattle.std.specs.Prelude.{ℕ, Bool, List, map, is_some}
 use Rattle.regress_engine_insn.specs.Instructions.{Program}
 use Rattle.regress_engine_code.specs.Standing.{program_of}
 use Rattle.regress_engine_runs.specs.States.{Marks}
@@ -32,3 +32,7 @@ budget_of e = e.budget
 -- how many steps one with a bound may still take
 abbrev pub steps_of : {I : Type 0} {g : _} → Backtracker I StepsLeft g → ℕ
 steps_of e = e.budget.0
+
+-- whether it turns to a table where no more steps may be counted
+abbrev pub turns_in : {I B : Type 0} {g : _} → Backtracker I B g → Bool
+turns_in e = is_some e.turning

@@ -1,5 +1,6 @@
 //! Budgets of searches.
-ghost use Rattle.std.specs.Prelude.{◌≡◌, Some, None, IfSome, alloc_error};
+ghost use Rattle.std.specs.Prelude.{◌≡◌, false, true, Some, None, IfSome, alloc_error};
+ghost use Rattle.regress_engine_exec.specs.Turned.{has_steps};
 
 use crate::error::SearchError;
 use regress_engine_search::{Budget, StepsLeft, Unbounded};
@@ -22,6 +23,17 @@ pub trait SearchBudget: Budget + Copy {
         ensures over { IfSome result is_over }
         ensures none { result ≡ None → Self.left self.now ≡ Some 0 → ⊥ };
 
+    /// Lowers the budget to so many steps, if it has so many and a bound. It answers whether it did; if not, the budget stays as it was.
+    ///
+    /// ```rust
+    /// let mut budget = StepsLeft(1_000);
+    /// let is_lowered = budget.lower(10);
+    /// ```
+    fn lower(&mut self, steps: usize) -> bool
+        ensures lowered { result ≡ has_steps (Self.left self.old) steps }
+        ensures left { result ≡ true → Self.left self.new ≡ Some steps }
+        ensures kept { result ≡ false → self.new ≡ self.old };
+
     // that memory is refused says something else
     ghost refused: { (e : Self.Error) → Self.Error.from_gives alloc_error e → is_over e → ⊥ };
 }
@@ -34,6 +46,10 @@ impl SearchBudget for Unbounded {
     #[inline]
     fn over(&self) -> Option<AllocError> {
         None
+    }
+
+    fn lower(&mut self, _steps: usize) -> bool {
+        false
     }
 
     ghost refused = { λ e from over. over };
@@ -50,6 +66,14 @@ impl SearchBudget for StepsLeft {
     #[inline]
     fn over(&self) -> Option<SearchError> {
         Some(SearchError::TooManySteps)
+    }
+
+    fn lower(&mut self, steps: usize) -> bool {
+        if self.0 < steps {
+            return false;
+        }
+        self.0 = steps;
+        true
     }
 
     ghost refused = { Prim.search rules };

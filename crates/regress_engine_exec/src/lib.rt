@@ -9,9 +9,11 @@ mod producer;
 mod scratch;
 mod search;
 mod stepping;
+mod turning;
 
 pub use budget::SearchBudget;
 pub use error::SearchError;
 pub use regress_engine_search::{ExecutorInput, Shown};
 pub use scratch::Scratch;
 pub use search::{BacktrackExecutor, Backtracker, BoundedExecutor};
+pub use turning::{LINEAR_STEPS, MOST_TOLD, linear_steps};

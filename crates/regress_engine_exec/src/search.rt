@@ -1,5 +1,5 @@
 //! The search for the first place from which a run has an answer.
-ghost use Rattle.std.specs.Prelude.{◌≡◌, false, Some, option_map, IfOk, IfErr, IfSome, OnErr};
+ghost use Rattle.std.specs.Prelude.{◌≡◌, ◌||◌, false, true, length, Some, option_copied, option_map, IfOk, IfErr, IfSome, OnErr};
 ghost use Rattle.regress_match.specs.GroupViews.{names_of_match};
 ghost use Rattle.regress_match.specs.Views.{item_of};
 ghost use Rattle.regress_engine_code.specs.Standing.{names_of, program_of};
@@ -14,13 +14,16 @@ ghost use Rattle.regress_engine_search.specs.Search.{IsMadeOf, IsItemAtPlaces, I
 ghost use Rattle.regress_engine_attempt.specs.Attempts.{Remembers, world_of};
 ghost use Rattle.regress_engine_attempt.specs.Counting.{CountsRun};
 ghost use Rattle.regress_engine_exec.specs.Counting.{CountsSearch};
+ghost use Rattle.regress_engine_exec.specs.Turned.{NeverOver, TellsLinear, Turns, enough_by, may_turn};
 
 use crate::budget::SearchBudget;
 use crate::finding::{first_from, run_from};
 use crate::scratch::Scratch;
+use crate::turning::{Turning, turning_over};
 use regress_engine_attempt::Remembered;
 use regress_engine_code::CompiledRegex;
 use regress_engine_inputs::Utf8Input;
+use regress_engine_linear::LinearTable;
 use regress_engine_search::{
     Ended, ExecutorInput, SearchContext, Shown, StepsLeft, Unbounded, fill_slots,
 };
@@ -37,14 +40,17 @@ pub struct Backtracker<'r, Input: Shown, B> {
     scratch: Scratch,
     remembered: Remembered,
     budget: B,
+    turning: Option<Turning<'r>>,
     ghost so: { ∥ Remembers (world_of context.program.now (Input.shown context.input)) remembered ∥₁ },
+    ghost turns: { ∥ IfSome turning (Turns (program_of context.program.now) (Input.shown context.input)) ∥₁ },
 }
 
 /// Finds the matches of a program in a text, however many steps that takes.
 pub type BacktrackExecutor<'r, Input> = Backtracker<'r, Input, Unbounded>;
 
 /// Finds the matches of a program in a text, as `BacktrackExecutor` does, in so many steps for all its searches. A search that would
-/// take more errs with `TooManySteps`: only where its runs take at least as many steps as were left, counted as below.
+/// take more errs with `TooManySteps`: only where its runs take at least as many steps as were left, counted as below. Or it goes on by a
+/// table, where the executor turns to one (`with_budget`).
 ///
 /// A step does the instruction of one state, or drops the state, and one more is counted for each 64 units that a one-character loop
 /// passes over. What looks for the next place where a match may begin is not counted.
@@ -85,7 +91,7 @@ impl<'r, Input: ExecutorInput> BacktrackExecutor<'r, Input> {
         ensures program { (⟦<BacktrackExecutor<'r, Input> as MatchProducer>⟧.search_of result).compiled ≡ program.entry.now }
         ensures text { (⟦<BacktrackExecutor<'r, Input> as MatchProducer>⟧.search_of result).view ≡ Input.view input }
     {
-        Backtracker::with_budget(alloc, program, input, scratch, Unbounded)
+        Backtracker::with_budget(alloc, program, None, input, scratch, Unbounded)
     }
 }
 
@@ -105,36 +111,47 @@ impl<'r, Input: ExecutorInput> BoundedExecutor<'r, Input> {
 }
 
 impl<'r, Input: ExecutorInput, B: SearchBudget> Backtracker<'r, Input, B> {
-    ghost use Rattle.regress_engine_exec.specs.Searches.{budget_of, groups_in, program_in, search_in};
+    ghost use Rattle.regress_engine_exec.specs.Searches.{budget_of, groups_in, program_in, search_in, turns_in};
 
-    /// The executor of a program over a text, with room that other searches have left, and a budget for all its searches.
+    /// The executor of a program over a text, with room that other searches have left, and a budget for all its searches. If it is given the
+    /// table of its program and the budget has enough steps (`linear_steps`), the budget is lowered to these, and where no more may be counted
+    /// its searches go on by a table of the text: in time that grows as program and text do, and none errs with `TooManySteps`.
     ///
     /// Asks that the program is made for the text: of units over UTF-16 and UCS-2, else of bytes, with the text's tables and
-    /// mode.
+    /// mode; and that it is linear by its table, if one is given.
     ///
     /// ```rust
-    /// let mut executor = Backtracker::with_budget(alloc, &program, input, scratch, StepsLeft(1_000_000));
+    /// let budget = StepsLeft(1_000_000);
+    /// let mut executor = Backtracker::with_budget(alloc, &program, None, input, scratch, budget);
     /// ```
     pub fn with_budget(
         alloc: Global,
         program: &'r CompiledRegex,
+        table: Option<&'r LinearTable>,
         input: Input,
         scratch: Scratch,
         budget: B,
     ) -> Self
         requires made { IsMadeOf program.now (Input.view input) }
+        requires linear { TellsLinear (program_of program.now) (option_copied table) }
         ensures program { (search_in result).compiled ≡ program.entry.now }
         ensures text { (search_in result).view ≡ Input.view input }
-        ensures budget { budget_of result ≡ budget }
+        ensures turns { turns_in result ≡ may_turn (option_copied table.entry) (length (Input.view input).units) (B.left budget) }
+        ensures budget { turns_in result ≡ false → budget_of result ≡ budget }
+        ensures lowered { turns_in result ≡ true → B.left (budget_of result) ≡ enough_by (option_copied table.entry) (length (Input.view input).units) }
     {
         let context = SearchContext::new(program, input);
-        let remembered = Remembered::new(alloc, context.text_len());
+        let units = context.text_len();
+        let remembered = Remembered::new(alloc, units);
+        let mut budget = budget;
+        let turning = turning_over(table, units, &mut budget);
         Backtracker {
             alloc,
             context,
             scratch,
             remembered,
             budget,
+            turning,
         }
     }
 
@@ -147,6 +164,72 @@ impl<'r, Input: ExecutorInput, B: SearchBudget> Backtracker<'r, Input, B> {
         self.scratch
     }
 
+    /// Whether it has turned to a table of the text.
+    fn has_turned(&self) -> bool
+        ensures { result ≡ true → turns_in self.now ≡ true }
+    {
+        match &self.turning {
+            Some(turning) => turning.told.is_some(),
+            None => false,
+        }
+    }
+
+    /// The error of a search where no more steps may be counted.
+    fn too_many_steps(&self) -> B::Error
+        requires { B.left (budget_of self.now) ≡ Some 0 }
+        ensures { B.is_over result }
+    {
+        match self.budget.over() {
+            Some(error) => error,
+            None => unreachable!(),
+        }
+    }
+
+    /// Searches from an offset on by tables, if it turns to them; else no more steps may be counted, and it errs since there would be too
+    /// many. It answers as `search` does.
+    fn search_told(&mut self, offset: usize) -> Result<Option<(usize, usize)>, B::Error>
+        requires place { IsAtPlace (reading_of (Input.view self.old.context.input)) offset }
+        requires over { turns_in self.old ≡ false → B.left (budget_of self.old) ≡ Some 0 }
+        ensures found { IfOk result (λ found. IsFound (program_in self.old) (input_of (Input.view self.old.context.input)) offset found (groups_in self.new)) }
+        ensures never { IfErr result (NeverOver B.is_over (turns_in self.old)) }
+        ensures budget { budget_of self.new ≡ budget_of self.old }
+        ensures kept { self.new.context ≡ self.old.context }
+        ensures turns { turns_in self.new ≡ turns_in self.old }
+    {
+        let Some(turning) = &mut self.turning else {
+            return Err(self.too_many_steps());
+        };
+        let found = turning.first_from(
+            self.alloc,
+            &self.context,
+            &mut self.scratch.memory.groups,
+            offset,
+        )?;
+        Ok(found)
+    }
+
+    /// Runs the program from an offset by tables, if it turns to them, as `search_told` searches. It answers as `run_at` does.
+    fn run_told(&mut self, offset: usize) -> Result<Option<usize>, B::Error>
+        requires place { IsAtPlace (reading_of (Input.view self.old.context.input)) offset }
+        requires over { turns_in self.old ≡ false → B.left (budget_of self.old) ≡ Some 0 }
+        ensures answer { IfOk result (λ end. IsAnswer (program_in self.old) (input_of (Input.view self.old.context.input)) offset end (groups_in self.new)) }
+        ensures never { IfErr result (NeverOver B.is_over (turns_in self.old)) }
+        ensures budget { budget_of self.new ≡ budget_of self.old }
+        ensures kept { self.new.context ≡ self.old.context }
+        ensures turns { turns_in self.new ≡ turns_in self.old }
+    {
+        let Some(turning) = &mut self.turning else {
+            return Err(self.too_many_steps());
+        };
+        let end = turning.run_from(
+            self.alloc,
+            &self.context,
+            &mut self.scratch.memory.groups,
+            offset,
+        )?;
+        Ok(end)
+    }
+
     /// Searches from an offset on. It answers the offset from which the first run has an answer, and where that ends; the answer's
     /// groups are then held.
     fn search(&mut self, offset: usize) -> Result<Option<(usize, usize)>, B::Error>
@@ -154,8 +237,13 @@ impl<'r, Input: ExecutorInput, B: SearchBudget> Backtracker<'r, Input, B> {
         ensures found { IfOk result (λ found. IsFound (program_in self.old) (input_of (Input.view self.old.context.input)) offset found (groups_in self.new)) }
         ensures counted { IfOk result (λ _. CountsSearch (program_in self.old) (Input.view self.old.context.input) offset (B.left (budget_of self.old)) (B.left (budget_of self.new))) }
         ensures stopped { IfErr result (λ e. B.is_over e → (B.left (budget_of self.new) ≡ Some 0) × CountsSearch (program_in self.old) (Input.view self.old.context.input) offset (B.left (budget_of self.old)) (B.left (budget_of self.new))) }
+        ensures never { IfErr result (NeverOver B.is_over (turns_in self.old)) }
         ensures kept { self.new.context ≡ self.old.context }
+        ensures turns { turns_in self.new ≡ turns_in self.old }
     {
+        if self.has_turned() {
+            return self.search_told(offset);
+        }
         let ended = first_from(
             &self.context,
             &mut self.scratch,
@@ -165,10 +253,7 @@ impl<'r, Input: ExecutorInput, B: SearchBudget> Backtracker<'r, Input, B> {
         )?;
         match ended {
             Ended::With(found) => Ok(found),
-            Ended::TooManySteps => match self.budget.over() {
-                Some(error) => Err(error),
-                None => unreachable!(),
-            },
+            Ended::TooManySteps => self.search_told(offset),
         }
     }
 
@@ -178,8 +263,13 @@ impl<'r, Input: ExecutorInput, B: SearchBudget> Backtracker<'r, Input, B> {
         ensures answer { IfOk result (λ end. IsAnswer (program_in self.old) (input_of (Input.view self.old.context.input)) offset end (groups_in self.new)) }
         ensures counted { IfOk result (λ _. CountsRun (program_in self.old) (Input.view self.old.context.input) offset (B.left (budget_of self.old)) (B.left (budget_of self.new))) }
         ensures stopped { IfErr result (λ e. B.is_over e → (B.left (budget_of self.new) ≡ Some 0) × CountsRun (program_in self.old) (Input.view self.old.context.input) offset (B.left (budget_of self.old)) (B.left (budget_of self.new))) }
+        ensures never { IfErr result (NeverOver B.is_over (turns_in self.old)) }
         ensures kept { self.new.context ≡ self.old.context }
+        ensures turns { turns_in self.new ≡ turns_in self.old }
     {
+        if self.has_turned() {
+            return self.run_told(offset);
+        }
         let ended = run_from(
             &self.context,
             &mut self.scratch,
@@ -189,10 +279,7 @@ impl<'r, Input: ExecutorInput, B: SearchBudget> Backtracker<'r, Input, B> {
         )?;
         match ended {
             Ended::With(end) => Ok(end),
-            Ended::TooManySteps => match self.budget.over() {
-                Some(error) => Err(error),
-                None => unreachable!(),
-            },
+            Ended::TooManySteps => self.run_told(offset),
         }
     }
 
@@ -212,7 +299,9 @@ impl<'r, Input: ExecutorInput, B: SearchBudget> Backtracker<'r, Input, B> {
         ensures named { IfOk result (λ found. IfSome found (λ m. names_of_match m ≡ names_of self.old.context.program.now)) }
         ensures counted { IfOk result (λ _. CountsSearch (program_in self.old) (Input.view self.old.context.input) offset (B.left (budget_of self.old)) (B.left (budget_of self.new))) }
         ensures stopped { IfErr result (λ e. B.is_over e → (B.left (budget_of self.new) ≡ Some 0) × CountsSearch (program_in self.old) (Input.view self.old.context.input) offset (B.left (budget_of self.old)) (B.left (budget_of self.new))) }
+        ensures never { IfErr result (NeverOver B.is_over (turns_in self.old)) }
         ensures kept { self.new.context ≡ self.old.context }
+        ensures turns { turns_in self.new ≡ turns_in self.old }
     {
         let Some((start, end)) = self.search(offset)? else {
             return Ok(None);
@@ -244,7 +333,9 @@ impl<'r, Input: ExecutorInput, B: SearchBudget> Backtracker<'r, Input, B> {
         ensures untouched { OnErr result (slots.new ≡ slots.old) }
         ensures counted { IfOk result (λ _. CountsSearch (program_in self.old) (Input.view self.old.context.input) offset (B.left (budget_of self.old)) (B.left (budget_of self.new))) }
         ensures stopped { IfErr result (λ e. B.is_over e → (B.left (budget_of self.new) ≡ Some 0) × CountsSearch (program_in self.old) (Input.view self.old.context.input) offset (B.left (budget_of self.old)) (B.left (budget_of self.new))) }
+        ensures never { IfErr result (NeverOver B.is_over (turns_in self.old)) }
         ensures kept { self.new.context ≡ self.old.context }
+        ensures turns { turns_in self.new ≡ turns_in self.old }
     {
         let Some((start, end)) = self.search(offset)? else {
             return Ok(None);
@@ -269,7 +360,9 @@ impl<'r, Input: ExecutorInput, B: SearchBudget> Backtracker<'r, Input, B> {
         ensures named { IfOk result (λ found. IfSome found (λ m. names_of_match m ≡ names_of self.old.context.program.now)) }
         ensures counted { IfOk result (λ _. CountsRun (program_in self.old) (Input.view self.old.context.input) offset (B.left (budget_of self.old)) (B.left (budget_of self.new))) }
         ensures stopped { IfErr result (λ e. B.is_over e → (B.left (budget_of self.new) ≡ Some 0) × CountsRun (program_in self.old) (Input.view self.old.context.input) offset (B.left (budget_of self.old)) (B.left (budget_of self.new))) }
+        ensures never { IfErr result (NeverOver B.is_over (turns_in self.old)) }
         ensures kept { self.new.context ≡ self.old.context }
+        ensures turns { turns_in self.new ≡ turns_in self.old }
     {
         let Some(end) = self.run_at(offset)? else {
             return Ok(None);
@@ -298,7 +391,9 @@ impl<'r, Input: ExecutorInput, B: SearchBudget> Backtracker<'r, Input, B> {
         ensures untouched { OnErr result (slots.new ≡ slots.old) }
         ensures counted { IfOk result (λ _. CountsRun (program_in self.old) (Input.view self.old.context.input) offset (B.left (budget_of self.old)) (B.left (budget_of self.new))) }
         ensures stopped { IfErr result (λ e. B.is_over e → (B.left (budget_of self.new) ≡ Some 0) × CountsRun (program_in self.old) (Input.view self.old.context.input) offset (B.left (budget_of self.old)) (B.left (budget_of self.new))) }
+        ensures never { IfErr result (NeverOver B.is_over (turns_in self.old)) }
         ensures kept { self.new.context ≡ self.old.context }
+        ensures turns { turns_in self.new ≡ turns_in self.old }
     {
         let Some(end) = self.run_at(offset)? else {
             return Ok(None);

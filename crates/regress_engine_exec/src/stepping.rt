@@ -1,9 +1,10 @@
 //! The matches of a program in a text, one after another.
-ghost use Rattle.std.specs.Prelude.{◌≡◌, ◌<◌, None, IfOk, IfSome, OnErr};
+ghost use Rattle.std.specs.Prelude.{◌≡◌, ◌<◌, None, IfOk, IfErr, IfSome, OnErr};
 ghost use Rattle.regress_match.specs.Iterating.{Finds, steps_on};
 ghost use Rattle.regress_engine_search.specs.Search.{items_from, places_behind, IsPosition, IsStart, StartsAt, IsMatchOf, Steps};
 ghost use Rattle.regress_engine_exec.specs.Counting.{CountsFrom, CountsStep};
-ghost use Rattle.regress_engine_exec.specs.Searches.{budget_of, search_in};
+ghost use Rattle.regress_engine_exec.specs.Searches.{budget_of, search_in, turns_in};
+ghost use Rattle.regress_engine_exec.specs.Turned.{NeverOver};
 
 use crate::budget::SearchBudget;
 use crate::search::Backtracker;
@@ -46,6 +47,8 @@ impl<'r, Input: ExecutorInput, B: SearchBudget> Backtracker<'r, Input, B> {
         ensures nearer { IfSome result (λ _. steps_on (places_behind (search_in self.old)) position.new < steps_on (places_behind (search_in self.old)) position.old) }
         ensures counted { CountsStep B.is_over (search_in self.old) position.old result (B.left (budget_of self.old)) (B.left (budget_of self.new)) }
         ensures ended { position.old ≡ None → result ≡ None }
+        ensures never { IfSome result (λ given. IfErr given (NeverOver B.is_over (turns_in self.old))) }
+        ensures turns { turns_in self.new ≡ turns_in self.old }
     {
         let from = position.take()?;
         self.advance(from, position).transpose()
@@ -64,6 +67,8 @@ impl<'r, Input: ExecutorInput, B: SearchBudget> Backtracker<'r, Input, B> {
         ensures nearer { IfSome next.new (λ p. places_behind (search_in self.old) p < places_behind (search_in self.old) position) }
         ensures last { OnErr result (next.new ≡ None) }
         ensures counted { CountsFrom B.is_over (search_in self.old) position result (B.left (budget_of self.old)) (B.left (budget_of self.new)) }
+        ensures never { IfErr result (NeverOver B.is_over (turns_in self.old)) }
+        ensures turns { turns_in self.new ≡ turns_in self.old }
     {
         *next = None;
         let Some(found) = self.find_from(position)? else {

@@ -1,26 +1,21 @@
 -- States at one address and offset run alike where the loops of both are under way.
 use Rattle.std.specs.Prelude.{slice_get, slice_set, nat_lt, nat_le}
-use Rattle.std.specs.List.{AllByRecursion}
-use Rattle.std.proofs.Common.{◌≡◌, ℕ, suc, ◌+◌, ◌<◌, ◌≤◌, ◌⊎◌, inl, inr, ◌&&◌, ◌==◌, Bool, true, false, List, [], ◌∷◌, ◌++◌, length, get_or, Option, None, Some, if◌then◌else◌, refl, sym, ap, ap₂, ◌∙◌, subst, arith, get_or-set_same}
-use Rattle.std.proofs.lemmas.Bool.{lt-ltb, ne_eqb}
+use Rattle.std.proofs.Common.{◌≡◌, ℕ, suc, ◌+◌, ◌<◌, ◌≤◌, ◌⊎◌, inl, inr, ◌&&◌, ◌==◌, Bool, true, false, List, [], ◌∷◌, length, get_or, Option, None, Some, if◌then◌else◌, refl, sym, ap, ap₂, ◌∙◌, subst, arith, get_or-set_same}
+use Rattle.std.proofs.lemmas.Bool.{false_from_ne_true, lt-ltb, ltb-true, ne_eqb}
 use Rattle.std.proofs.lemmas.Bool.Decides.{nat_tests}
 use Rattle.regress_meaning.specs.Meaning.{Direction}
 use Rattle.regress_meaning.specs.Inputs.{Input}
-use Rattle.regress_front_nodes.specs.Trees.{Submatch, lookaround, atomic}
-use Rattle.regress_front_nodes.specs.TreeMeaning.{submatch_direction}
-use Rattle.regress_engine_input.specs.Views.{View, AreOfKind, input_of, reading_of}
 use Rattle.regress_engine_insn.specs.Instructions.{LoopFields, Instruction, Program, Stands, surplus}
 use Rattle.regress_engine_insn.specs.Instructions as code
-use Rattle.regress_engine_runs.specs.States.{Marks, Whole, onward, mixed}
-use Rattle.regress_engine_runs.specs.Runs.{advance, after_submatch, choices, count_of, counted, entered, fields_of, is_idle, is_plain, moved_to, one_more, ordered, room, successors}
+use Rattle.regress_engine_runs.specs.States.{Marks, Whole}
+use Rattle.regress_engine_runs.specs.Runs.{advance, choices, count_of, counted, is_idle, is_plain, moved_to, one_more, ordered, room, successors}
 use Rattle.regress_engine_runs.specs.Meets.{referred}
 use Rattle.regress_engine_runs.specs.UndoStack.{whole, at_each}
 use Rattle.regress_engine_search.proofs.InsnLemmas.{again-successors}
 use Rattle.regress_engine_memory.specs.Flow.{Flow, Flows, IsFlow}
-use Rattle.regress_engine_memory.specs.Under.{IsFurther}
 use Rattle.regress_engine_memory.proofs.Onward.{flows-unreferring, further-past, past-differs}
 use Rattle.regress_engine_memory.proofs.Unreferring.{advance-any, counted-any}
-use Rattle.regress_engine_linear.specs.Ranks.{Ranking, Ranks, IsCycle, AreRanked, AreRunning, AreUnbounded, IsRunning}
+use Rattle.regress_engine_linear.specs.Ranks.{Ranking, Ranks, IsCycle, AreRanked, AreRunning, AreUnboundedOrOnce, IsRunning}
 use Rattle.regress_engine_linear.proofs.Running.{running-ends, same-loop}
 
 -- as many states stand at the same addresses and offsets
@@ -70,21 +65,26 @@ module _ (program : Program) (input : Input) (o : ℕ) (ls ms : List (ℕ × ℕ
       (alike-ordered f.greedy (nat_lt (count_of f.loop_id t) f.most) (nat_le f.least (count_of f.loop_id t)) (one_more f.loop_id begin s) (record s { at = f.exit })
       (one_more f.loop_id begin t) (record t { at = f.exit }) (refl, refl) (refl, refl))
 
-module _ (flow : Flow) (r : Ranking) (last : ℕ) (program : Program) (input : Input) (closed : IsFlow flow program) (ranked : AreRanked flow r program) (unbounded : AreUnbounded last program)
+module _ (flow : Flow) (r : Ranking) (last : ℕ) (program : Program) (input : Input) (closed : IsFlow flow program) (ranked : AreRanked flow r program) (unbounded : AreUnboundedOrOnce last program)
     (dir : Direction) where
   abbrev Running : Whole → Type 0
   Running s = AreRunning flow r program last dir s
 
-  -- an iteration that is under way may end, and more may begin
+  -- an iteration that is under way may end, and more may begin where a repetition has more than one
   pub busy : (f : LoopFields) (at begin o : ℕ) (x : ℕ × ℕ) → Stands program begin (code.enter_loop f) → IsCycle flow r at begin f → IsRunning r last dir at o f.loop_id x
-      → ((nat_lt f.least x.0 && (x.1 == o)) ≡ false) × (nat_lt x.0 f.most ≡ true) × (nat_le f.least x.0 ≡ true)
-  busy f at begin o x there cycle running = (idle, lt-ltb x.0 f.most (omega (arith, few, most)), out)
+      → ((nat_lt f.least x.0 && (x.1 == o)) ≡ false) × (nat_lt x.0 f.most ≡ nat_lt 1 f.most) × (nat_le f.least x.0 ≡ true)
+  busy f at begin o x there cycle running = (idle, more (unbounded begin f there), out)
     where
       few : x.0 + room last dir x.1 ≤ suc last
       few = running.few
 
-      most : suc last < f.most
-      most = unbounded begin f there
+      begun : 1 ≤ x.0
+      begun = running.begun
+
+      more : (suc last < f.most) ⊎ (f.most ≡ 1) → nat_lt x.0 f.most ≡ nat_lt 1 f.most
+      more (inl most) = lt-ltb x.0 f.most (omega (arith, few, most)) ∙ sym (lt-ltb 1 f.most (omega (arith, begun, few, most)))
+      more (inr once) = false_from_ne_true (nat_lt x.0 f.most) (λ e. let less = ltb-true x.0 f.most e in absurd (omega (arith, less, once, begun)))
+          ∙ sym (false_from_ne_true (nat_lt 1 f.most) (λ e. let less = ltb-true 1 f.most e in absurd (omega (arith, less, once))))
 
       differs : x.1 ≡ o → ⊥
       differs = past-differs dir x.1 o (further-past last dir x.1 o (running-ends r last dir at begin o f x flow cycle running))
@@ -97,7 +97,7 @@ module _ (flow : Flow) (r : Ranking) (last : ℕ) (program : Program) (input : I
           by_test false e = refl
 
       out : nat_le f.least x.0 ≡ true
-      out = let least = cycle.least in let begun = running.begun in let enough : f.least ≤ x.0 = omega (arith, least, begun) in grind (arith, nat_tests)
+      out = let least = cycle.least in let enough : f.least ≤ x.0 = omega (arith, least, begun) in grind (arith, nat_tests)
 
   -- what a plain instruction leads to stands alike
   pub shape-on : (i : Instruction) (at o : ℕ) (ls ms : List (ℕ × ℕ)) (gs hs : List Marks) → Stands program at i → is_plain i ≡ true

@@ -1,7 +1,7 @@
 -- What a state leads to is beyond it, so that no run comes back to where it was.
 use Rattle.std.specs.Prelude.{slice_get}
 use Rattle.std.specs.List.{AllByRecursion}
-use Rattle.std.proofs.Common.{◌≡◌, ℕ, suc, ◌+◌, ◌<◌, ◌≤◌, ◌⊎◌, inl, inr, true, List, [], ◌∷◌, length, refl, sym, ap, subst, arith}
+use Rattle.std.proofs.Common.{◌≡◌, ℕ, suc, ◌<◌, ◌≤◌, ◌⊎◌, inl, inr, true, List, [], ◌∷◌, length, refl, ap, subst, arith}
 use Rattle.regress_meaning.specs.Meaning.{Direction}
 use Rattle.regress_engine_input.specs.Views.{View, AreOfKind, input_of, reading_of}
 use Rattle.regress_engine_insn.specs.Instructions.{LoopFields, Instruction, Program, Stands}

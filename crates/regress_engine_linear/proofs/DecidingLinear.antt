@@ -1,6 +1,6 @@
 -- A program that passes the test is linear.
 use Rattle.std.specs.Prelude.{IfSome, nat_le, nat_lt}
-use Rattle.std.proofs.Common.{◌≡◌, ℕ, ◌-◌, ◌^◌, ◌<◌, ◌≤◌, ◌⊎◌, inl, inr, ◌&&◌, ◌||◌, ◌==◌, Bool, true, false, List, [], ◌∷◌, length, get_or, Option, Some, refl, sym, ap, ◌∙◌, subst, arith}
+use Rattle.std.proofs.Common.{◌≡◌, ℕ, ◌≤◌, ◌⊎◌, inl, inr, ◌&&◌, ◌||◌, ◌==◌, Bool, true, false, List, [], ◌∷◌, length, get_or, Option, Some, subst, arith}
 use Rattle.std.proofs.lemmas.Bool.{and_parts, or_cases, eqb-true, ltb-true, leb-true}
 use Rattle.std.proofs.lemmas.Option.{slice_get-get_or}
 use Rattle.regress_meaning.specs.Text.{holds}
@@ -11,7 +11,7 @@ use Rattle.regress_engine_memory.specs.Deciding.{Table, calm_at, flow_of, is_flo
 use Rattle.regress_engine_memory.specs.Passing.{all_pass}
 use Rattle.regress_engine_memory.proofs.Deciding.{decides}
 use Rattle.regress_engine_memory.proofs.TableLemmas.{each-passes}
-use Rattle.regress_engine_linear.specs.Linear.{AreFew, IsLinear, IsUnbounded, LeavesGroups, few}
+use Rattle.regress_engine_linear.specs.Linear.{AreFew, IsLinear, LeavesGroups, few, too_long}
 use Rattle.regress_engine_linear.specs.LinearTests.{fits_at, is_fit, is_unbounded, may_stand}
 use Rattle.regress_engine_linear.specs.RankTables.{Heights, ArePlaced, are_ranked, forward_at}
 use Rattle.regress_engine_linear.proofs.Ranking.{ranks-decide}
@@ -41,10 +41,16 @@ module _ (t : Table) (h : Heights) (program : Program) (flows : is_flow t progra
       let both = and_parts (nat_le least few) (is_unbounded most || nat_le most few) e in (
         leb-true least few both.0,
         elim (or_cases (is_unbounded most) (nat_le most few) both.1) [
-          | inl is ↦ inl (eqb-true most (2 ^ 64 - 1) is)
+          | inl is ↦ inl (leb-true too_long most is)
           | inr is ↦ inr (leb-true most few is)
         ],
       )
+
+  bounded : (most : ℕ) → (is_unbounded most || (most == 1)) ≡ true → (too_long ≤ most) ⊎ (most ≡ 1)
+  bounded most e = elim (or_cases (is_unbounded most) (most == 1) e) [
+    | inl is ↦ inl (leb-true too_long most is)
+    | inr is ↦ inr (eqb-true most 1 is)
+  ]
 
   leaving : (kind : Submatch) (first last continuation : ℕ) → may_stand (code.submatch kind first last continuation) ≡ true → LeavesGroups kind first last
   leaving (lookaround true backward) first last continuation e = tt
@@ -70,7 +76,7 @@ module _ (t : Table) (h : Heights) (program : Program) (flows : is_flow t progra
         some = omega (arith, count, more);
         ranks = eqb-true (length h.order) (length program.instructions) d.1;
         begins = c.0;
-        unbounded = λ at f here. eqb-true f.most (2 ^ 64 - 1) (one at (code.enter_loop f) here).1;
+        unbounded = λ at f here. bounded f.most (one at (code.enter_loop f) here).1;
         counts = λ at least most greedy here. counted least most (one at (code.single_loop least most greedy) here).1;
         leaves = λ at first last continuation kind here. leaving kind first last continuation (one at (code.submatch kind first last continuation) here).1;
       }

@@ -1,20 +1,20 @@
 -- What the code works out of an address and an offset is whether one of the states answers to which its instruction leads.
 use Rattle.std.specs.Prelude.{slice_get, slice_set, map, nat_lt, nat_le}
-use Rattle.std.proofs.Common.{◌≡◌, ℕ, zero, suc, ◌+◌, ◌<◌, ◌≤◌, ◌&&◌, ◌||◌, ◌==◌, Bool, true, false, List, [], ◌∷◌, length, get_or, Option, None, Some, if◌then◌else◌, refl, sym, ap, ap₂, ◌∙◌, subst, arith, get_or-set_same}
+use Rattle.std.proofs.Common.{◌≡◌, ℕ, suc, ◌<◌, inl, inr, ◌&&◌, ◌||◌, Bool, true, false, List, [], ◌∷◌, length, get_or, Option, None, Some, if◌then◌else◌, refl, sym, ap, ap₂, ◌∙◌, subst, arith, get_or-set_same}
 use Rattle.std.proofs.lemmas.Bool.{lt-ltb}
 use Rattle.regress_meaning.specs.Meaning.{Direction}
 use Rattle.regress_meaning.specs.Inputs.{Input}
 use Rattle.regress_engine_insn.specs.Instructions.{LoopFields, Instruction, Program, Stands, surplus}
 use Rattle.regress_engine_insn.specs.Instructions as code
 use Rattle.regress_engine_runs.specs.States.{Marks, Whole}
-use Rattle.regress_engine_runs.specs.Runs.{advance, choices, count_of, counted, entered, fields_of, is_idle, is_plain, moved_to, one_more, ordered, room, successors}
+use Rattle.regress_engine_runs.specs.Runs.{advance, choices, count_of, counted, entered, fields_of, is_plain, moved_to, one_more, ordered, room, successors}
 use Rattle.regress_engine_runs.specs.Meets.{referred}
 use Rattle.regress_engine_runs.specs.UndoStack.{whole, at_each}
 use Rattle.regress_engine_search.proofs.InsnLemmas.{again-successors}
 use Rattle.regress_engine_memory.specs.Flow.{Flow, Flows, IsFlow}
 use Rattle.regress_engine_memory.proofs.Onward.{flows-unreferring}
 use Rattle.regress_engine_memory.proofs.Unreferring.{advance-any, counted-any}
-use Rattle.regress_engine_linear.specs.Ranks.{Ranking, Ranks, IsCycle, AreRanked, AreRunning, AreUnbounded}
+use Rattle.regress_engine_linear.specs.Ranks.{Ranking, Ranks, IsCycle, AreRanked, AreRunning, AreUnboundedOrOnce}
 use Rattle.regress_engine_linear.specs.Answered.{again, answer_at, behind, one_answers, one_at}
 use Rattle.regress_engine_linear.proofs.Running.{same-loop}
 use Rattle.regress_engine_linear.proofs.Alike.{busy}
@@ -51,7 +51,7 @@ module _ (told : ℕ → ℕ → Bool) (program : Program) (input : Input) (dir 
       by_value false false true a b p q = or-none (told t.at t.offset)
       by_value false false false a b p q = refl
 
-module _ (flow : Flow) (r : Ranking) (last : ℕ) (program : Program) (input : Input) (closed : IsFlow flow program) (ranked : AreRanked flow r program) (unbounded : AreUnbounded last program)
+module _ (flow : Flow) (r : Ranking) (last : ℕ) (program : Program) (input : Input) (closed : IsFlow flow program) (ranked : AreRanked flow r program) (unbounded : AreUnboundedOrOnce last program)
     (dir : Direction) (told : ℕ → ℕ → Bool) where
   abbrev Running : Whole → Type 0
   Running s = AreRunning flow r program last dir s
@@ -71,7 +71,7 @@ module _ (flow : Flow) (r : Ranking) (last : ℕ) (program : Program) (input : I
   enter-answers : (f : LoopFields) (at o : ℕ) (ls : List (ℕ × ℕ)) (gs : List Marks) → f.loop_id < program.loops → Stands program at (code.enter_loop f) → Running (whole at o ls gs)
       → Is (code.enter_loop f) (whole at o ls gs)
   enter-answers f at o ls gs within here running =
-      choices-answer f at (entered input dir f (whole at o ls gs)) true (nat_le f.least 0) (ap (λ n. nat_lt n f.most) none ∙ lt-ltb 0 f.most (omega (arith, most)))
+      choices-answer f at (entered input dir f (whole at o ls gs)) true (nat_le f.least 0) (ap (λ n. nat_lt n f.most) none ∙ some)
       (ap (nat_le f.least) none)
     where
       begun : ℕ × ℕ
@@ -80,8 +80,8 @@ module _ (flow : Flow) (r : Ranking) (last : ℕ) (program : Program) (input : I
       cycle : IsCycle flow r at at f
       cycle = ranked at (code.enter_loop f) running.calm here
 
-      most : suc last < f.most
-      most = unbounded at f here
+      some : nat_lt 0 f.most ≡ true
+      some = lt-ltb 0 f.most (elim (unbounded at f here) [ inl most ↦ omega (arith, most) | inr once ↦ omega (arith, once) ])
 
       none : (get_or (slice_set ls f.loop_id begun) f.loop_id (0, 0)).0 ≡ 0
       none =
@@ -104,7 +104,7 @@ module _ (flow : Flow) (r : Ranking) (last : ℕ) (program : Program) (input : I
           let one = busy flow r last program input closed ranked unbounded dir f at begin o (get_or ls f.loop_id (0, 0)) there cycle (running.loops f.loop_id live-too) in
           ap (one_answers told) (again-successors program input dir s begin f there)
           ∙ ap (λ (b : Bool). one_answers told (if b then [] else choices f begin s)) one.0
-          ∙ choices-answer f begin s true true one.1 one.2
+          ∙ choices-answer f begin s (nat_lt 1 f.most) true one.1 one.2
           ∙ ap (λ (x : Option Instruction). again told o begin (fields_of x)) (sym there)
 
   -- It is whether one of those has an answer to which the instruction leads.

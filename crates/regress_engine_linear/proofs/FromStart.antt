@@ -1,7 +1,7 @@
 -- In each state that a run meets from the first state on the loops that are live are under way.
 use Rattle.std.specs.Prelude.{IfSome}
 use Rattle.std.specs.List.{AllByRecursion}
-use Rattle.std.proofs.Common.{◌≡◌, ℕ, ◌≤◌, inl, inr, true, false, List, [], ◌∷◌, ◌++◌, length, Option, None, Some, refl, sym, ap, subst, replicate}
+use Rattle.std.proofs.Common.{◌≡◌, ℕ, inl, true, false, List, [], ◌∷◌, length, Option, None, Some, refl, ap}
 use Rattle.std.proofs.lemmas.List.{length-replicate}
 use Rattle.regress_meaning.specs.Meaning.{Direction, Forward}
 use Rattle.regress_front_nodes.specs.Trees.{Submatch, lookaround, atomic}
@@ -10,7 +10,7 @@ use Rattle.regress_engine_input.specs.Views.{View, AreOfKind, direction_of, inpu
 use Rattle.regress_engine_insn.specs.Instructions.{Instruction, Program, Stands}
 use Rattle.regress_engine_insn.specs.Instructions as code
 use Rattle.regress_engine_runs.specs.States.{Marks, Whole, onward, mixed, first_state}
-use Rattle.regress_engine_runs.specs.Runs.{Run, after_submatch, successors}
+use Rattle.regress_engine_runs.specs.Runs.{after_submatch, successors}
 use Rattle.regress_engine_runs.specs.Meets.{Meets, now, later, inside, behind, reads_character, ReadsPlaces}
 use Rattle.regress_engine_search.specs.Search.{Suits}
 use Rattle.regress_engine_memory.specs.Flow.{Flow, IsFlow}

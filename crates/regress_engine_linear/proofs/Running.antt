@@ -1,7 +1,7 @@
 -- What is under way stays so: loops that are live in a state are under way in each state that it leads to.
 use Rattle.std.specs.Prelude.{slice_get, slice_set}
 use Rattle.std.specs.List.{AllByRecursion}
-use Rattle.std.proofs.Common.{◌≡◌, ℕ, suc, ◌+◌, ◌<◌, ◌≤◌, ◌⊎◌, inl, inr, true, List, [], ◌∷◌, length, get_or, Option, None, Some, refl, sym, ap, ◌∙◌, subst, arith, get_or-set_same, get_or-set_other, length-set}
+use Rattle.std.proofs.Common.{◌≡◌, ℕ, suc, ◌+◌, ◌<◌, ◌≤◌, ◌⊎◌, inl, inr, true, List, length, get_or, Option, Some, refl, sym, ap, ◌∙◌, subst, arith, get_or-set_same, get_or-set_other, length-set}
 use Rattle.std.proofs.lemmas.Bool.{cases_eq}
 use Rattle.regress_meaning.specs.Meaning.{Direction, Forward, Backward}
 use Rattle.regress_engine_input.specs.Views.{View, AreOfKind, direction_of, input_of, reading_of}
@@ -12,7 +12,7 @@ use Rattle.regress_engine_runs.specs.UndoStack.{whole}
 use Rattle.regress_front_nodes.specs.Trees.{Submatch}
 use Rattle.regress_front_nodes.specs.TreeMeaning.{submatch_direction}
 use Rattle.regress_engine_runs.specs.Runs.{entered, fields_of, is_plain, one_more, room, successors}
-use Rattle.regress_engine_runs.specs.Meets.{referred, reads_character, ReadsPlaces}
+use Rattle.regress_engine_runs.specs.Meets.{reads_character, ReadsPlaces}
 use Rattle.regress_engine_search.specs.Search.{Suits}
 use Rattle.regress_engine_memory.specs.Flow.{Flow, Flows, Hands, Writes, IsFlow}
 use Rattle.regress_engine_memory.specs.Needs.{taken_by}

@@ -1,7 +1,7 @@
 -- Runs from states at one address and offset are alike where all loops are under way, whatever their data and the groups.
 use Rattle.std.specs.Prelude.{IfSome, get_or}
 use Rattle.std.specs.List.{AllByRecursion}
-use Rattle.std.proofs.Common.{◌≡◌, ℕ, suc, ◌+◌, ◌<◌, ◌≤◌, inl, inr, Bool, true, false, List, [], ◌∷◌, ◌++◌, length, Option, None, Some, refl, sym, ap, ap₂, ◌∙◌, subst, arith}
+use Rattle.std.proofs.Common.{◌≡◌, ℕ, suc, ◌<◌, inl, true, false, List, [], ◌∷◌, ◌++◌, length, Option, None, Some, refl, sym, ap, ap₂, subst}
 use Rattle.regress_meaning.specs.Meaning.{Direction}
 use Rattle.regress_front_nodes.specs.Trees.{Submatch, lookaround, atomic}
 use Rattle.regress_front_nodes.specs.TreeMeaning.{submatch_direction}
@@ -9,21 +9,21 @@ use Rattle.regress_engine_input.specs.Views.{View, AreOfKind, input_of, reading_
 use Rattle.regress_engine_insn.specs.Instructions.{LoopFields, Instruction, Program, Stands}
 use Rattle.regress_engine_insn.specs.Instructions as code
 use Rattle.regress_engine_runs.specs.States.{Marks, Whole, unset, range_of, onward, mixed}
-use Rattle.regress_engine_runs.specs.Runs.{Run, ends, finds, goes, looks, after_submatch, is_plain, room, successors}
+use Rattle.regress_engine_runs.specs.Runs.{Run, ends, finds, goes, looks, after_submatch, is_plain, successors}
 use Rattle.regress_engine_runs.specs.Meets.{Meets, now, later, inside, behind, referred, reads_character, ReadsPlaces, AreAtPlaces, IsAtPlace}
 use Rattle.regress_engine_runs.specs.UndoStack.{Fails, whole}
 use Rattle.regress_engine_search.specs.Search.{Suits}
 use Rattle.regress_engine_memory.specs.Flow.{Flow, IsFlow}
 use Rattle.regress_engine_memory.specs.Agreeing.{Agrees, EndAlike}
 use Rattle.regress_engine_memory.specs.Under.{IsOnward}
-use Rattle.regress_engine_memory.proofs.Onward.{Takes, takes-none, room-less, ends-onward, flows-unreferring}
+use Rattle.regress_engine_memory.proofs.Onward.{ends-onward, flows-unreferring}
 use Rattle.regress_engine_memory.proofs.Steady.{steady}
-use Rattle.regress_engine_linear.specs.Ranks.{Ranking, AreRanked, AreRunning, AreUnbounded, AreBeside, AllBeside, FailsAnyhow}
+use Rattle.regress_engine_linear.specs.Ranks.{Ranking, AreRanked, AreRunning, AreUnboundedOrOnce, AreBeside, AllBeside, FailsAnyhow}
 use Rattle.regress_engine_linear.proofs.Running.{running-behind, running-inside, running-step}
 use Rattle.regress_engine_linear.proofs.Alike.{StandAlike, shape-on}
 
 module _ (flow : Flow) (r : Ranking) (v : View) (all : AreOfKind v.kind v.units) (program : Program) (suits : Suits program v) (closed : IsFlow flow program) (ranked : AreRanked flow r program)
-    (unbounded : AreUnbounded (length v.units) program) where
+    (unbounded : AreUnboundedOrOnce (length v.units) program) where
   abbrev last : ℕ
   last = length v.units
 

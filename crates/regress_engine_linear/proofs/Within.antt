@@ -1,7 +1,7 @@
 -- What an instruction leads to lies in the text.
 use Rattle.std.specs.Prelude.{slice_get, option_and_then, map}
 use Rattle.std.specs.List.{AllByRecursion}
-use Rattle.std.proofs.Common.{◌≡◌, ℕ, zero, suc, ◌+◌, ◌-◌, ◌≤◌, Bool, true, false, List, [], ◌∷◌, length, All, Option, Some, None, if◌then◌else◌, refl, sym, ap, ◌∙◌, subst, arith, length-append, length-drop}
+use Rattle.std.proofs.Common.{◌≡◌, ℕ, zero, suc, ◌+◌, ◌-◌, ◌≤◌, Bool, true, false, List, [], ◌∷◌, length, All, Option, Some, None, if◌then◌else◌, refl, sym, ap, subst, arith, length-append, length-drop}
 use Rattle.std.proofs.lemmas.List.Elements.{All-nil, All-cons}
 use Rattle.regress_meaning.specs.Meaning.{Direction, Forward, Backward}
 use Rattle.regress_meaning.specs.Inputs.{Input}
@@ -14,7 +14,7 @@ use Rattle.regress_engine_insn.specs.Instructions.{LoopFields, Instruction, Prog
 use Rattle.regress_engine_insn.specs.Instructions as code
 use Rattle.regress_engine_runs.specs.Closed.{takes_character}
 use Rattle.regress_engine_runs.specs.States.{Marks, Whole}
-use Rattle.regress_engine_runs.specs.Runs.{advance, after_times, as_far, counted, entered, fields_of, given_back, is_plain, moved_to, one_by_one, one_more, successors}
+use Rattle.regress_engine_runs.specs.Runs.{advance, after_times, as_far, counted, entered, fields_of, given_back, is_plain, moved_to, one_by_one, successors}
 use Rattle.regress_engine_runs.specs.Meets.{referred, reads_character, IsAtPlace}
 use Rattle.regress_engine_runs.proofs.Literals.{place-on}
 use Rattle.regress_engine_search.specs.Ready.{IsBody}

@@ -1,8 +1,8 @@
 -- Whether runs from an address and an offset have an answer.
-use Rattle.std.specs.Prelude.{◌≡◌, ℕ, suc, ◌&&◌, ◌||◌, Bool, true, false, List, [], ◌∷◌, length, Option, Some, None, is_some, not, if◌then◌else◌, slice_get, nat_le}
+use Rattle.std.specs.Prelude.{◌≡◌, ℕ, suc, ◌&&◌, ◌||◌, Bool, true, false, List, [], ◌∷◌, length, Option, Some, None, is_some, not, if◌then◌else◌, slice_get, nat_le, nat_lt}
 use Rattle.regress_meaning.specs.Meaning.{Direction}
 use Rattle.regress_meaning.specs.Inputs.{Input}
-use Rattle.regress_front_nodes.specs.Trees.{Submatch, lookaround, atomic}
+use Rattle.regress_front_nodes.specs.Trees.{lookaround, atomic}
 use Rattle.regress_engine_input.specs.Views.{View, input_of, reading_of}
 use Rattle.regress_engine_insn.specs.Instructions.{LoopFields, Instruction, Program, Stands}
 use Rattle.regress_engine_insn.specs.Instructions as code
@@ -49,10 +49,10 @@ abbrev pub behind : (told : ℕ → ℕ → Bool) → (at : ℕ) → Option ℕ 
 behind told at None = false
 behind told at (Some o) = told (suc at) o
 
--- a repetition goes on, from where it begins or where an iteration ends
+-- where an iteration ends a repetition goes on, with one more iteration if it has more than one, or behind it
 abbrev pub again : (told : ℕ → ℕ → Bool) → (o begin : ℕ) → Option LoopFields → Bool
 again told o begin None = false
-again told o begin (Some f) = told (suc begin) o || told f.exit o
+again told o begin (Some f) = (nat_lt 1 f.most && told (suc begin) o) || told f.exit o
 
 module _ (told : ℕ → ℕ → Bool) (program : Program) (input : Input) (dir : Direction) where
   -- Whether runs from an address and an offset have an answer, by what is told of those to which its instruction leads.

@@ -1,5 +1,5 @@
 -- Programs of which a search takes time that grows as program and text do.
-use Rattle.std.specs.Prelude.{◌≡◌, ℕ, ◌-◌, ◌^◌, ◌<◌, ◌≤◌, ◌⊎◌, Bool, true, false, length}
+use Rattle.std.specs.Prelude.{◌≡◌, ℕ, ◌^◌, ◌<◌, ◌≤◌, ◌⊎◌, Bool, true, false, length}
 use Rattle.regress_front_nodes.specs.Trees.{Submatch, lookaround, atomic}
 use Rattle.regress_engine_insn.specs.Instructions.{LoopFields, Instruction, Program, Stands}
 use Rattle.regress_engine_insn.specs.Instructions as code
@@ -11,9 +11,13 @@ use Rattle.regress_engine_linear.specs.RankTables.{Heights, ArePlaced, forward_a
 abbrev pub IsDue : Heights → (forward : Bool) → (rank at : ℕ) → Type 0
 IsDue h forward rank at = (at < length h.ranks) × (forward_at h at ≡ forward) × (rank_at h at ≡ rank)
 
--- a repetition has no greatest number
-abbrev pub IsUnbounded : LoopFields → Type 0
-IsUnbounded f = f.most ≡ 2 ^ 64 - 1
+-- so long is no text
+abbrev pub too_long : ℕ
+too_long = 2 ^ 63
+
+-- a repetition has no greatest number that a text can reach, or has one iteration at most
+abbrev pub IsUnboundedOrOnce : LoopFields → Type 0
+IsUnboundedOrOnce f = (too_long ≤ f.most) ⊎ (f.most ≡ 1)
 
 -- what a lookaround leaves is where it stands: it is negated, or no groups are inside; no atomic group is
 abbrev pub LeavesGroups : Submatch → (first last : ℕ) → Type 0
@@ -26,11 +30,11 @@ abbrev pub few : ℕ
 few = 256
 
 abbrev pub AreFew : (least most : ℕ) → Type 0
-AreFew least most = (least ≤ few) × ((most ≡ 2 ^ 64 - 1) ⊎ (most ≤ few))
+AreFew least most = (least ≤ few) × ((too_long ≤ most) ⊎ (most ≤ few))
 
 -- A program is linear, by what flows through it and by a ranking: no back reference can be reached, no way leads back to an address without
--- taking something, no repetition has a greatest number but a small one of one character, and of a lookaround or an atomic group nothing is
--- left but whether it matches.
+-- taking something, no repetition has a greatest number but 1, or a small one of one character, and of a lookaround or an atomic group
+-- nothing is left but whether it matches.
 pub record IsLinear (flow : Flow) (h : Heights) (program : Program) : Type 0 where
   pub flows : IsFlow flow program
   pub calm : (at : ℕ) → at < length program.instructions → flow.calm at ≡ true
@@ -41,6 +45,6 @@ pub record IsLinear (flow : Flow) (h : Heights) (program : Program) : Type 0 whe
   pub ranks : length h.order ≡ length program.instructions
   pub some : 0 < length program.instructions
   pub begins : forward_at h 0 ≡ true
-  pub unbounded : (at : ℕ) (f : LoopFields) → Stands program at (code.enter_loop f) → IsUnbounded f
+  pub unbounded : (at : ℕ) (f : LoopFields) → Stands program at (code.enter_loop f) → IsUnboundedOrOnce f
   pub counts : (at least most : ℕ) (greedy : Bool) → Stands program at (code.single_loop least most greedy) → AreFew least most
   pub leaves : (at first last continuation : ℕ) (kind : Submatch) → Stands program at (code.submatch kind first last continuation) → LeavesGroups kind first last

@@ -1,20 +1,20 @@
 -- The test that a program is linear.
-use Rattle.std.specs.Prelude.{ℕ, ◌-◌, ◌^◌, ◌&&◌, ◌||◌, ◌==◌, Bool, true, false, length, nat_le, nat_lt}
-use Rattle.regress_front_nodes.specs.Trees.{Submatch, lookaround, atomic}
+use Rattle.std.specs.Prelude.{ℕ, ◌&&◌, ◌||◌, ◌==◌, Bool, true, false, length, nat_le, nat_lt}
+use Rattle.regress_front_nodes.specs.Trees.{lookaround, atomic}
 use Rattle.regress_engine_insn.specs.Instructions.{Instruction, Program}
 use Rattle.regress_engine_insn.specs.Instructions as code
 use Rattle.regress_engine_memory.specs.Deciding.{Table, calm_at, live_at}
 use Rattle.regress_engine_memory.specs.Passing.{all_pass}
-use Rattle.regress_engine_linear.specs.Linear.{few}
+use Rattle.regress_engine_linear.specs.Linear.{few, too_long}
 use Rattle.regress_engine_linear.specs.RankTables.{Heights, forward_at}
 
--- a greatest number is none
+-- a greatest number is one that no text can reach
 abbrev pub is_unbounded : ℕ → Bool
-is_unbounded most = most == 2 ^ 64 - 1
+is_unbounded most = nat_le too_long most
 
 -- an instruction may stand in a linear program
 abbrev pub may_stand : Instruction → Bool
-may_stand (code.enter_loop f) = is_unbounded f.most
+may_stand (code.enter_loop f) = is_unbounded f.most || (f.most == 1)
 may_stand (code.single_loop least most greedy) = nat_le least few && (is_unbounded most || nat_le most few)
 may_stand (code.submatch (lookaround true backward) first last continuation) = true
 may_stand (code.submatch (lookaround false backward) first last continuation) = nat_le last first

@@ -61,9 +61,9 @@ Ranks flow r program at i = Lowers r (taken_by i) at (suc at)
 abbrev pub AreRanked : Flow → Ranking → Program → Type 0
 AreRanked flow r program = (at : ℕ) (i : Instruction) → flow.calm at ≡ true → Stands program at i → Ranks flow r program at i
 
--- No repetition has a greatest number that a text of so many units lets it come to.
-abbrev pub AreUnbounded : (last : ℕ) → Program → Type 0
-AreUnbounded last program = (at : ℕ) (f : LoopFields) → Stands program at (code.enter_loop f) → suc last < f.most
+-- Each repetition has no greatest number that a text of so many units lets it come to, or has one iteration at most.
+abbrev pub AreUnboundedOrOnce : (last : ℕ) → Program → Type 0
+AreUnboundedOrOnce last program = (at : ℕ) (f : LoopFields) → Stands program at (code.enter_loop f) → (suc last < f.most) ⊎ (f.most ≡ 1)
 
 -- A loop is under way at an address and an offset: its iteration has begun there, at no lower rank, or behind.
 pub record IsRunning (r : Ranking) (last : ℕ) (dir : Direction) (at o id : ℕ) (x : ℕ × ℕ) : Type 0 where

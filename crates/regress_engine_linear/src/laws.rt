@@ -12,7 +12,7 @@ ghost use Rattle.regress_engine_search.specs.Search.{Suits};
 ghost use Rattle.regress_engine_memory.specs.Agreeing.{EndAlike};
 ghost use Rattle.regress_engine_memory.specs.Flow.{Flow, IsFlow};
 ghost use Rattle.regress_engine_linear.specs.Answered.{IsAnswered, one_answers};
-ghost use Rattle.regress_engine_linear.specs.Ranks.{AllBeside, AreRanked, AreRunning, AreUnbounded, FailsAnyhow, IsBeyond, Ranking};
+ghost use Rattle.regress_engine_linear.specs.Ranks.{AllBeside, AreRanked, AreRunning, AreUnboundedOrOnce, FailsAnyhow, IsBeyond, Ranking};
 
 /// Loops that are under way in a state are so in each state that its instruction leads to.
 pub fn running_states_lead_on()
@@ -25,7 +25,7 @@ pub fn running_states_lead_on()
 /// to none.
 pub fn running_states_run_alike()
     ensures { (flow : Flow) → (r : Ranking) → (v : View) → AreOfKind v.kind v.units → (program : Program) → Suits program v → IsFlow flow program → AreRanked flow r program
-        → AreUnbounded (length v.units) program → (dir : Direction) → (ts : List Whole) → (n : ℕ) → (a : Option Whole) → Run program (input_of v) dir ts n a
+        → AreUnboundedOrOnce (length v.units) program → (dir : Direction) → (ts : List Whole) → (n : ℕ) → (a : Option Whole) → Run program (input_of v) dir ts n a
         → ((u : Whole) → (i : Instruction) → Meets program (input_of v) dir ts u → Stands program u.at i → reads_character i ≡ true → ReadsPlaces (reading_of v) i u)
         → (ss : List Whole) → AllBeside flow r program (length v.units) dir ss ts → (q : Option Whole) × Run program (input_of v) dir ss n q × EndAlike q a }
 {}
@@ -41,7 +41,7 @@ pub fn runs_go_beyond()
 /// What has no answer once has none whatever the groups are, and whatever the loops that are under way.
 pub fn running_failures_forget()
     ensures { (flow : Flow) → (r : Ranking) → (v : View) → AreOfKind v.kind v.units → (program : Program) → Suits program v → IsFlow flow program → AreRanked flow r program
-        → AreUnbounded (length v.units) program → (dir : Direction) → (at o : ℕ) → (loops : List (ℕ × ℕ)) → (groups : List Marks)
+        → AreUnboundedOrOnce (length v.units) program → (dir : Direction) → (at o : ℕ) → (loops : List (ℕ × ℕ)) → (groups : List Marks)
         → AreRunning flow r program (length v.units) dir (whole at o loops groups)
         → ((u : Whole) → (i : Instruction) → Meets program (input_of v) dir (whole at o loops groups ∷ []) u → Stands program u.at i → reads_character i ≡ true → ReadsPlaces (reading_of v) i u)
         → Fails program (input_of v) dir (whole at o loops groups ∷ []) → FailsAnyhow flow r program (input_of v) (length v.units) dir at o }

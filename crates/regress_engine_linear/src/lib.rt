@@ -11,4 +11,4 @@ pub use laws::{
     running_states_run_alike, runs_go_beyond,
 };
 pub use ranks::RankTable;
-pub use testing::{LinearTable, MOST_REPEATS};
+pub use testing::{LinearTable, MOST_ADDRESSES, MOST_REPEATS};

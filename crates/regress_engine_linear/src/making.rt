@@ -127,7 +127,11 @@ fn suggested_ranks(
 fn order(alloc: Global, insns: &[Insn]) -> Result<Vec<usize>, AllocError> {
     let mut ranks: Vec<usize> = Vec::new(alloc);
     for _ in 0..MOST_ROUNDS {
-        ranks = suggested_ranks(alloc, insns, &ranks)?;
+        let suggested = suggested_ranks(alloc, insns, &ranks)?;
+        if suggested == ranks {
+            break;
+        }
+        ranks = suggested;
     }
     let mut order: Vec<usize> = Vec::new(alloc);
     order.extend(0..insns.len())?;

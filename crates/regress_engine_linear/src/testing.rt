@@ -17,11 +17,17 @@ use std::alloc::{AllocError, Global};
 /// The greatest number of iterations of a one-character loop that has one, in a program that is linear, and the greatest least number.
 pub const MOST_REPEATS: usize = 256;
 
-/// Whether a greatest number is none.
+/// How many addresses a program has at most that is told to be linear.
+pub const MOST_ADDRESSES: usize = 1 << 16;
+
+/// So long is no text: a repetition that may go on so often goes on as one without a greatest number.
+const TOO_LONG: usize = 1 << 63;
+
+/// Whether a greatest number is one that no text can reach.
 fn is_unbounded(most: usize) -> bool
     ensures { result ≡ is_unbounded most }
 {
-    most == usize::MAX
+    TOO_LONG <= most
 }
 
 /// Whether an instruction may stand in a linear program.
@@ -29,7 +35,9 @@ fn may_stand(insn: &Insn) -> bool
     ensures { result ≡ may_stand (instruction insn.now) }
 {
     match insn {
-        Insn::EnterLoop(repetition) => is_unbounded(repetition.max_iters),
+        Insn::EnterLoop(repetition) => {
+            is_unbounded(repetition.max_iters) || repetition.max_iters == 1
+        }
         Insn::Loop1CharBody {
             min_iters,
             max_iters,
@@ -130,7 +138,8 @@ impl LinearTable {
         self.ranks.is_read(forward, at) && self.ranks.rank(at) == rank
     }
 
-    /// The table of a program with so many loops, where the program is linear; `None` where it is not. It errs only where memory is refused.
+    /// The table of a program with so many loops, where the program is linear; `None` where it is not, or has more than `MOST_ADDRESSES`
+    /// addresses. It errs only where memory is refused.
     ///
     /// ```rust
     /// let table = LinearTable::of(alloc, program.insns(), program.loops() as usize)?;
@@ -143,6 +152,9 @@ impl LinearTable {
         ensures { IfOk result (λ found. IfSome found (λ table. (program : Program) → program.instructions ≡ map instruction insns.now
             → IsLinear (flow_of (table_of table.flow)) (heights_of table.ranks) program)) }
     {
+        if MOST_ADDRESSES < insns.len() {
+            return Ok(None);
+        }
         let Some(flow) = FlowTable::of(alloc, insns, loops)? else {
             return Ok(None);
         };

@@ -1,7 +1,7 @@
 -- What an executor writes to slots is what a tree's match list, or its outcome at a place, has first.
 use Rattle.std.specs.Prelude.{option_map, slice_get, IfErr, IfOk, IfSome, nat_le}
 use Rattle.std.specs.Bool.{then_some}
-use Rattle.std.proofs.Common.{◌≡◌, ℕ, zero, suc, ◌<◌, ◌≤◌, ◌⊎◌, inl, inr, Bool, List, [], ◌∷◌, map, Option, Some, None, Result, Ok, Err, All, length, refl, sym, ap, ◌∙◌, subst}
+use Rattle.std.proofs.Common.{◌≡◌, ℕ, zero, suc, ◌<◌, ◌≤◌, ◌⊎◌, inl, inr, Bool, true, false, List, [], ◌∷◌, map, Option, Some, None, Result, Ok, Err, All, length, refl, sym, ap, ◌∙◌, subst}
 use Rattle.std.proofs.lemmas.Bool.{cases_lt, le-leb, lt-leb}
 use Rattle.std.proofs.lemmas.List.Elements.{All-nil, All-cons, All-head, All-tail}
 use Rattle.std.specs.declared.ops.Range.{Range}
@@ -22,6 +22,7 @@ use Rattle.regress_engine_runs.specs.Meets.{AreAtPlaces}
 use Rattle.regress_engine_search.specs.Answering.{IsOutcome}
 use Rattle.regress_engine_search.specs.Search.{Search, IsMadeOf, IsItemAtPlaces, IsPosition, IsWritten, items_from}
 use Rattle.regress_engine_search.proofs.ProducerLemmas.{goes_on-place, items-asked, items-next, items-none, read-starts}
+use Rattle.regress_engine_exec.specs.Turned.{NeverOver}
 use Rattle.regress_programs.specs.declared.slots.Anchored.{Anchored}
 use Rattle.regress_programs.specs.declared.slots.Anchored.TheVariants.{No, Yes}
 use Rattle.regress_programs.specs.Programs.{IsLaidOutFrom, items_of_tree}
@@ -135,6 +136,13 @@ pub told-by : {E : Type 0} (P : Item → Type 0) (IsResult : Option Item → Typ
 told-by P IsResult j is (Ok None) result inside = is None tt result
 told-by P IsResult j is (Ok (Some m)) result inside = is (Some (item_of m)) inside result
 told-by P IsResult j is (Err e) result inside = tt
+
+-- where a search errs since there would be too many steps, it may not turn to a table, and its budget is the one that it was given
+pub stops-as_given : {T E B : Type 0} (r : Result T E) (IsOver : E → Type 0) (turns may : Bool) → turns ≡ may → (made given : B) → (turns ≡ false → made ≡ given)
+    → (Counts : B → Type 0) → IfErr r (NeverOver IsOver turns) → IfErr r (λ e. IsOver e → Counts made) → IfErr r (λ e. IsOver e → (may ≡ false) × Counts given)
+stops-as_given (Ok x) IsOver turns may same made given kept Counts never stopped = tt
+stops-as_given (Err e) IsOver true may same made given kept Counts never stopped = λ over. absurd (never refl over)
+stops-as_given (Err e) IsOver false may same made given kept Counts never stopped = λ over. (sym same, subst Counts (kept refl) (stopped over))
 
 -- where all steps were counted, the runs of a search take them all
 pub takes-all : {T E : Type 0} (r : Result T E) (IsOver : E → Type 0) (Counts : (at : ℕ) → Option ℕ → Type 0) (from at : ℕ) (after : Option ℕ) → from ≡ at

@@ -11,7 +11,7 @@ use Rattle.regress_match.specs.TextRanges.{LiesBetween, LiesInText}
 use Rattle.regress_match.specs.Views.{ends, item_of}
 use Rattle.regress_front_bytes.proofs.TextLemmas.{offset_is_boundary}
 use Rattle.regress_engine_input.specs.Views.{View, Kind, AreOfKind, are_bytes, reading_of, reading_of_kind}
-use Rattle.regress_engine.specs.Layout.{Target}
+use Rattle.regress_engine_insn.specs.Layout.{Target}
 use Rattle.regress_engine_code.specs.declared.compiled.CompiledRegex.{CompiledRegex}
 use Rattle.regress_engine_runs.specs.Meets.{AreAtPlaces, IsAtPlace}
 use Rattle.regress_engine_search.specs.Search.{IsItemAtPlaces}

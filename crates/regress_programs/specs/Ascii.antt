@@ -2,9 +2,9 @@
 use Rattle.std.specs.Prelude.{◌≡◌, ℕ, List, None}
 use Rattle.regress_meaning.specs.Matches.{Item}
 use Rattle.regress_match.specs.Iterating.{coming_on, steps_on}
-use Rattle.regress_engine.specs.InputViews.{ascii_view}
-use Rattle.regress_engine.specs.Standing.{names_of}
-use Rattle.regress_engine.specs.Search.{Search, items_from, places_behind}
+use Rattle.regress_engine_inputs.specs.InputViews.{ascii_view}
+use Rattle.regress_engine_code.specs.Standing.{names_of}
+use Rattle.regress_engine_search.specs.Search.{Search, items_from, places_behind}
 use Rattle.regress_programs.specs.declared.ascii.AsciiMatches.{AsciiMatches}
 
 -- the search of a text of ASCII: with which program, in what text

@@ -7,9 +7,9 @@ use Rattle.regress_front_core.specs.declared.error.Error.{Error}
 use Rattle.regress_match.specs.declared.found.Match.{Match}
 use Rattle.regress_match.specs.Iterating.{GivesMatch, coming_on, steps_on}
 use Rattle.regress_match.specs.TextRanges.{IsMatchIn}
-use Rattle.regress_engine.specs.InputViews.{utf8_view}
-use Rattle.regress_engine.specs.Standing.{names_of}
-use Rattle.regress_engine.specs.Search.{Search, items_from, places_behind}
+use Rattle.regress_engine_inputs.specs.InputViews.{utf8_view}
+use Rattle.regress_engine_code.specs.Standing.{names_of}
+use Rattle.regress_engine_search.specs.Search.{Search, items_from, places_behind}
 use Rattle.regress_programs.specs.declared.matches.Matches.{Matches}
 
 -- the search: with which program, in what text

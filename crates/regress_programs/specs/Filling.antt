@@ -6,9 +6,9 @@ use Rattle.regress_meaning.specs.Offsets.{Reading, told}
 use Rattle.regress_front.specs.Trees.{Tree}
 use Rattle.regress_match.specs.Views.{ends}
 use Rattle.regress_engine_code.specs.declared.compiled.CompiledRegex.{CompiledRegex}
-use Rattle.regress_engine.specs.Layout.{Target}
-use Rattle.regress_engine.specs.Meets.{AreAtPlaces}
-use Rattle.regress_engine.specs.Standing.{target_of}
+use Rattle.regress_engine_insn.specs.Layout.{Target}
+use Rattle.regress_engine_runs.specs.Meets.{AreAtPlaces}
+use Rattle.regress_engine_code.specs.Standing.{target_of}
 use Rattle.regress_programs.specs.declared.slots.Anchored.{Anchored}
 use Rattle.regress_programs.specs.declared.slots.Anchored.TheVariants.{No, Yes}
 use Rattle.regress_programs.specs.Outcomes.{outcome_of_tree}

@@ -9,3 +9,5 @@ pub mod Coming
 pub mod Units
 pub mod Ascii
 pub mod Slotted
+pub mod Tables
+pub use Rattle.regress_engine_exec.specs.Turned

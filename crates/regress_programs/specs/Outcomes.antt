@@ -6,7 +6,7 @@ use Rattle.regress_meaning.specs.Flags.{Options}
 use Rattle.regress_meaning.specs.Matches.{Item, attempt}
 use Rattle.regress_front.specs.NodeMatches.{node_attempt}
 use Rattle.regress_front.specs.Trees.{Tree}
-use Rattle.regress_engine.specs.Layout.{Target}
+use Rattle.regress_engine_insn.specs.Layout.{Target}
 
 -- The most preferred outcome of a pattern at a place of a text; past the end there is none.
 abbrev pub outcome_at : Table → Options → Pattern → List ℕ → ℕ → Option Item

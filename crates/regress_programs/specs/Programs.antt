@@ -19,9 +19,9 @@ use Rattle.regress_front.specs.Alike.{IsAlike}
 use Rattle.regress_front.specs.Parsed.{IsTreeMade}
 use Rattle.regress_front.specs.RewritingLaws.{IsRewritten}
 use Rattle.regress_engine_code.specs.declared.compiled.CompiledRegex.{CompiledRegex}
-use Rattle.regress_engine.specs.Layout.{Target, IsLayout}
-use Rattle.regress_engine.specs.Standing as code
-use Rattle.regress_engine.specs.Standing.{target_of}
+use Rattle.regress_engine_insn.specs.Layout.{Target, IsLayout}
+use Rattle.regress_engine_code.specs.Standing as code
+use Rattle.regress_engine_code.specs.Standing.{target_of}
 
 -- A tree of what is made of a pattern that a text spells within the limits: the one that it is read as, rewritten or not.
 pub record IsTreeFor (made : Pattern → Pattern) (table : Table) (o : Options) (text : List ℕ) (p : Pattern) (t : Tree) : Type 0 where

@@ -12,8 +12,8 @@ use Rattle.regress_front_costs.specs.declared.limit.LimitError.TheVariants.{Past
 use Rattle.regress_front.specs.Refusals as reading
 use Rattle.regress_front.specs.Trees.{Tree}
 use Rattle.regress_front.specs.Sizes.{loops}
-use Rattle.regress_engine.specs.Counts.{count}
-use Rattle.regress_engine.specs.Written.{AreTooMany}
+use Rattle.regress_engine_insn.specs.Counts.{count}
+use Rattle.regress_engine_code.specs.Written.{AreTooMany}
 use Rattle.regress_programs.specs.Programs.{IsTreeFor}
 
 -- A program of what is made of the pattern that the text spells, in bytes or in units, passes its count of instructions or of

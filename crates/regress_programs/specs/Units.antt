@@ -5,8 +5,8 @@ use Rattle.regress_meaning.specs.Matches.{Item}
 use Rattle.regress_meaning.specs.Offsets.{Reading, Begins}
 use Rattle.regress_match.specs.declared.found.Match.{Match}
 use Rattle.regress_match.specs.Iterating.{coming_on, steps_on}
-use Rattle.regress_engine.specs.InputViews.{utf16_view, ucs2_view}
-use Rattle.regress_engine.specs.Search.{Search, items_from, places_behind}
+use Rattle.regress_engine_inputs.specs.InputViews.{utf16_view, ucs2_view}
+use Rattle.regress_engine_search.specs.Search.{Search, items_from, places_behind}
 use Rattle.regress_programs.specs.declared.units.Utf16Matches.{Utf16Matches}
 use Rattle.regress_programs.specs.declared.units.Ucs2Matches.{Ucs2Matches}
 

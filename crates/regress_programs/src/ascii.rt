@@ -3,14 +3,15 @@ ghost use Rattle.std.specs.Prelude.{ℕ};
 ghost use Rattle.std.specs.Iterator.{at_most};
 ghost use Rattle.std.specs.Str.{IsAscii};
 ghost use Rattle.regress_meaning.specs.Offsets.{of_ascii, Begins};
-ghost use Rattle.regress_engine.specs.InputViews.{ascii_view};
-ghost use Rattle.regress_engine.specs.Search.{StartsAt};
+ghost use Rattle.regress_engine_inputs.specs.InputViews.{ascii_view};
+ghost use Rattle.regress_engine_search.specs.Search.{StartsAt};
 ghost use Rattle.regress_match.specs.Iterating.{GivesMatch};
 ghost use Rattle.regress_match.specs.TextRanges.{IsMatchIn};
 ghost use Rattle.regress_programs.specs.Positions.{IsPlaced, IsPlaced-prop};
 
 use crate::compiled::Compiled;
-use regress_engine::{AsciiInput, BacktrackExecutor};
+use regress_engine_exec::BacktrackExecutor;
+use regress_engine_inputs::AsciiInput;
 use regress_front::Error;
 use regress_match::Match;
 use std::alloc::Global;

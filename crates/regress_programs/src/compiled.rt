@@ -1,6 +1,7 @@
 //! The programs of a pattern.
-ghost use Rattle.std.specs.Prelude.{◌≡◌, ◌≤◌, ◌≢◌, ℕ, List, false, true, All, IfOk, IfErr, IsOkUnless, length};
-ghost use Rattle.regress_engine.specs.Standing.{IsCopyOf};
+ghost use Rattle.std.specs.Arc.{arc_value};
+ghost use Rattle.std.specs.Prelude.{◌≡◌, ◌≤◌, ◌≢◌, ℕ, List, false, true, All, IfOk, IfErr, IsOkUnless, length, option_copied, option_map};
+ghost use Rattle.regress_engine_code.specs.Standing.{IsCopyOf, program_of};
 ghost use Rattle.regress_meaning.specs.Table.{Table};
 ghost use Rattle.regress_meaning.specs.Pattern.{Pattern};
 ghost use Rattle.regress_meaning.specs.Flags.{Options};
@@ -11,26 +12,60 @@ ghost use Rattle.regress_front.specs.RewritingLaws.{IsRewritten};
 ghost use Rattle.regress_front.specs.Sizes.{spread};
 ghost use Rattle.regress_front.specs.Trees.{tree};
 ghost use Rattle.regress_front.specs.WellFormed.{IsWellFormed};
+ghost use Rattle.regress_engine_exec.specs.Turned.{TellsLinear, enough_by};
 ghost use Rattle.regress_programs.specs.Programs.{IsReadFrom, IsProgramOf, AreProgramsOf, AreProgramsWithin, HaveFewInstructions};
 ghost use Rattle.regress_programs.specs.Refusing.{MayRefuseMade, MayRefuseMadeWithin, MayRefuseRegex, MayRefuseWholeText};
 
-use regress_engine::{CompiledRegex, emit, emit_units};
+use regress_engine_code::{CompiledRegex, emit, emit_units};
+use regress_engine_exec::linear_steps;
+use regress_engine_linear::LinearTable;
 use regress_engine_runs::spreads_bound_counts;
 use regress_front::{
     Error, Flags, LimitError, Tables, ir, optimize, try_parse, try_parse_whole_text,
     try_parse_whole_text_within, try_parse_within,
 };
 use std::alloc::Global;
+use std::sync::Arc;
 
-/// The programs of a pattern: of bytes, and of units.
+/// The table by which a program is linear, where it is, and no request for memory is refused.
+fn linear_table(alloc: Global, program: &CompiledRegex) -> Option<Arc<LinearTable>>
+    ensures { TellsLinear (program_of program.now) (option_map arc_value result) }
+{
+    let made = LinearTable::of(alloc, program.insns(), program.loops() as usize);
+    let Ok(Some(table)) = made else {
+        return None;
+    };
+    let Ok(shared) = Arc::new(alloc, table) else {
+        return None;
+    };
+    Some(shared)
+}
+
+/// The same table, for one more owner.
+fn shared(table: &Option<Arc<LinearTable>>) -> Result<Option<Arc<LinearTable>>, Error>
+    ensures same { IfOk result (λ copy. option_map arc_value copy ≡ option_map arc_value table.now) }
+    ensures refused { IsOkUnless result Error.OutOfMemory }
+{
+    let Some(table) = table else {
+        return Ok(None);
+    };
+    Ok(Some(Arc::try_clone(table)?))
+}
+
+/// The programs of a pattern: of bytes, and of units; and for each the table by which it is linear, where it is. Searches that may take so
+/// many steps then turn to tables.
 #[derive(Debug, Drop)]
 pub struct Compiled {
     /// Of bytes, for texts of UTF-8 and ASCII.
     pub byte_program: CompiledRegex,
     /// Of 16-bit units.
     pub unit_program: CompiledRegex,
+    byte_table: Option<Arc<LinearTable>>,
+    unit_table: Option<Arc<LinearTable>>,
     ghost of_bytes: { byte_program.units ≡ false },
     ghost of_units: { unit_program.units ≡ true },
+    ghost linear_bytes: { TellsLinear (program_of byte_program) (option_map arc_value byte_table) },
+    ghost linear_units: { TellsLinear (program_of unit_program) (option_map arc_value unit_table) },
 }
 
 /// Rewrites a tree, unless its flags ask that it stays as it is.
@@ -47,6 +82,8 @@ fn rewrite(alloc: Global, regex: &mut ir::Regex<'_>) -> Result<(), Error>
 }
 
 impl Compiled {
+    ghost use Rattle.regress_programs.specs.Tables.{byte_table_of, unit_table_of};
+
     /// Compiles a tree: it becomes both programs once it is rewritten, unless the flags ask that it is not.
     fn of_tree(alloc: Global, mut regex: ir::Regex<'_>) -> Result<Compiled, Error>
         requires { (n : ℕ) × IsWellFormed n (tree regex.node) }
@@ -62,10 +99,67 @@ impl Compiled {
         rewrite(alloc, &mut regex)?;
         let unit_program = emit_units(alloc, &regex)?;
         let byte_program = emit(alloc, &regex)?;
-        Ok(Compiled {
+        Ok(Compiled::of_programs(alloc, byte_program, unit_program))
+    }
+
+    /// Two programs, which may be those of two patterns. For each it makes the table by which it is linear, where it is; where memory for that
+    /// is refused, there is none.
+    ///
+    /// Asks for one program of each kind.
+    ///
+    /// ```rust
+    /// let byte_program = compiled.byte_program.try_clone(alloc)?;
+    /// let unit_program = compiled.unit_program.try_clone(alloc)?;
+    /// let again = Compiled::of_programs(alloc, byte_program, unit_program);
+    /// ```
+    pub fn of_programs(
+        alloc: Global,
+        byte_program: CompiledRegex,
+        unit_program: CompiledRegex,
+    ) -> Compiled
+        requires of_bytes { byte_program.units ≡ false }
+        requires of_units { unit_program.units ≡ true }
+        ensures bytes { result.byte_program ≡ byte_program }
+        ensures units { result.unit_program ≡ unit_program }
+    {
+        let byte_table = linear_table(alloc, &byte_program);
+        let unit_table = linear_table(alloc, &unit_program);
+        Compiled {
             byte_program,
             unit_program,
-        })
+            byte_table,
+            unit_table,
+        }
+    }
+
+    /// The table by which the program of bytes is linear, if it is known to be.
+    ///
+    /// ```rust
+    /// let table = compiled.byte_table(); // for `a+` there is one
+    /// ```
+    pub fn byte_table(&self) -> Option<&LinearTable>
+        ensures table { option_copied result ≡ byte_table_of self.now }
+        ensures linear { TellsLinear (program_of self.now.byte_program) (option_copied result) }
+    {
+        match &self.byte_table {
+            Some(table) => Some(table),
+            None => None,
+        }
+    }
+
+    /// The table by which the program of units is linear, if it is known to be.
+    ///
+    /// ```rust
+    /// let table = compiled.unit_table(); // for `a+` there is one
+    /// ```
+    pub fn unit_table(&self) -> Option<&LinearTable>
+        ensures table { option_copied result ≡ unit_table_of self.now }
+        ensures linear { TellsLinear (program_of self.now.unit_program) (option_copied result) }
+    {
+        match &self.unit_table {
+            Some(table) => Some(table),
+            None => None,
+        }
     }
 
     /// Compiles a pattern that is given as code points ("RegExpInitialize").
@@ -160,6 +254,29 @@ impl Compiled {
         Ok(Compiled::of_tree(alloc, tree)?)
     }
 
+    /// How many steps are enough for all searches with the program of bytes in a text of so many bytes; `None` where it isn't known to be
+    /// linear, and where the table of the text would be too large.
+    ///
+    /// ```rust
+    /// let steps = compiled.byte_steps(text.len());
+    /// ```
+    pub fn byte_steps(&self, units: usize) -> Option<usize>
+        ensures { result ≡ enough_by (byte_table_of self.now) units }
+    {
+        linear_steps(self.byte_table()?, units)
+    }
+
+    /// The same with the program of units, in so many of them.
+    ///
+    /// ```rust
+    /// let steps = compiled.unit_steps(1_000);
+    /// ```
+    pub fn unit_steps(&self, units: usize) -> Option<usize>
+        ensures { result ≡ enough_by (unit_table_of self.now) units }
+    {
+        linear_steps(self.unit_table()?, units)
+    }
+
     /// The same programs once more. Errs with `OutOfMemory` alone.
     ///
     /// ```rust
@@ -168,13 +285,18 @@ impl Compiled {
     pub fn try_clone(&self, alloc: Global) -> Result<Compiled, Error>
         ensures bytes { IfOk result (λ c. IsCopyOf self.now.byte_program c.byte_program) }
         ensures units { IfOk result (λ c. IsCopyOf self.now.unit_program c.unit_program) }
+        ensures tables { IfOk result (λ c. (byte_table_of c ≡ byte_table_of self.now) × (unit_table_of c ≡ unit_table_of self.now)) }
         ensures refused { IsOkUnless result Error.OutOfMemory }
     {
+        let byte_table = shared(&self.byte_table)?;
+        let unit_table = shared(&self.unit_table)?;
         let byte_program = self.byte_program.try_clone(alloc)?;
         let unit_program = self.unit_program.try_clone(alloc)?;
         Ok(Compiled {
             byte_program,
             unit_program,
+            byte_table,
+            unit_table,
         })
     }
 }

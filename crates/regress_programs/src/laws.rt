@@ -8,7 +8,7 @@ ghost use Rattle.regress_front.specs.Parsed.{IsTreeMade};
 ghost use Rattle.regress_front.specs.TableViews.{table};
 ghost use Rattle.regress_front.specs.Trees.{tree};
 ghost use Rattle.regress_front_nodes.specs.declared.ir.Regex as ir;
-ghost use Rattle.regress_engine.specs.Standing as code;
+ghost use Rattle.regress_engine_code.specs.Standing as code;
 ghost use Rattle.regress_engine_code.specs.declared.compiled.CompiledRegex.{CompiledRegex};
 ghost use Rattle.regress_programs.specs.Programs.{IsProgramOf, IsTreeFor};
 

@@ -13,6 +13,7 @@ pub use ascii::AsciiMatches;
 pub use compiled::Compiled;
 pub use laws::programs_of_trees_are_of_patterns;
 pub use matches::Matches;
+pub use regress_engine_exec::{BacktrackExecutor, Scratch, SearchError};
 pub use searching::first_within;
 pub use slots::{Anchored, find_into, find_into_within};
 pub use units::{Ucs2Matches, Utf16Matches};

@@ -2,14 +2,15 @@
 ghost use Rattle.std.specs.Prelude.{ℕ};
 ghost use Rattle.std.specs.Iterator.{at_most};
 ghost use Rattle.regress_meaning.specs.Offsets.{of_utf8, Begins};
-ghost use Rattle.regress_engine.specs.InputViews.{utf8_view};
-ghost use Rattle.regress_engine.specs.Search.{StartsAt};
+ghost use Rattle.regress_engine_inputs.specs.InputViews.{utf8_view};
+ghost use Rattle.regress_engine_search.specs.Search.{StartsAt};
 ghost use Rattle.regress_match.specs.Iterating.{GivesMatch};
 ghost use Rattle.regress_match.specs.TextRanges.{IsMatchIn};
 ghost use Rattle.regress_programs.specs.Positions.{IsPlaced, IsPlaced-prop};
 
 use crate::compiled::Compiled;
-use regress_engine::{BacktrackExecutor, Utf8Input};
+use regress_engine_exec::BacktrackExecutor;
+use regress_engine_inputs::Utf8Input;
 use regress_front::Error;
 use regress_match::Match;
 use regress_matched::TextMatches;

@@ -1,18 +1,22 @@
 //! Matches that are written to slots of the caller.
-ghost use Rattle.std.specs.Prelude.{◌≡◌, ℕ, Some, IfErr, IfOk, IfSome, OnErr};
+ghost use Rattle.std.specs.Prelude.{◌≡◌, ℕ, Some, IfErr, IfOk, IfSome, OnErr, option_copied};
 ghost use Rattle.regress_meaning.specs.Offsets.{Begins};
 ghost use Rattle.regress_front.specs.Trees.{Tree};
 ghost use Rattle.regress_match.specs.Slots.{Fills};
-ghost use Rattle.regress_engine.specs.Search.{IsMadeOf};
-ghost use Rattle.regress_engine.specs.Searches.{budget_of};
-ghost use Rattle.regress_engine.specs.Standing.{target_of};
-ghost use Rattle.regress_engine.specs.Views.{reading_of};
+ghost use Rattle.regress_engine_search.specs.Search.{IsMadeOf};
+ghost use Rattle.regress_engine_exec.specs.Searches.{budget_of, turns_in};
+ghost use Rattle.regress_engine_exec.specs.Turned.{NeverOver, TellsLinear};
+ghost use Rattle.regress_engine_code.specs.Standing.{program_of, target_of};
+ghost use Rattle.regress_engine_input.specs.Views.{reading_of};
 ghost use Rattle.regress_programs.specs.declared.slots.Anchored.TheVariants.{Yes};
-ghost use Rattle.regress_programs.specs.Counting.{Counts};
+ghost use Rattle.regress_programs.specs.Counting.{Counts, Stops};
 ghost use Rattle.regress_programs.specs.Programs.{IsLaidOutFrom};
 ghost use Rattle.regress_programs.specs.Filling.{SlotsAreAtPlaces, first_told};
 
-use regress_engine::{Backtracker, CompiledRegex, ExecutorInput, Scratch, SearchBudget, Unbounded};
+use regress_engine_code::CompiledRegex;
+use regress_engine_exec::{Backtracker, Scratch, SearchBudget};
+use regress_engine_linear::LinearTable;
+use regress_engine_search::{ExecutorInput, Unbounded};
 use regress_match::Range;
 use std::alloc::{AllocError, Global};
 use std::mem;
@@ -41,6 +45,7 @@ fn next_into<Input: ExecutorInput, B: SearchBudget>(
     ensures begins { anchored ≡ Yes → IfOk result (λ found. IfSome found (λ r. r.start ≡ start)) }
     ensures inside { IfOk result (λ found. SlotsAreAtPlaces (reading_of (Input.view executor.old.context.input)) found slots.new) }
     ensures untouched { OnErr result (slots.new ≡ slots.old) }
+    ensures never { IfErr result (NeverOver B.is_over (turns_in executor.old)) }
     ensures stopped { IfErr result (λ e. B.is_over e →
         Counts anchored executor.old.context.program.now (Input.view executor.old.context.input) start (B.left (budget_of executor.old)) (Some 0)) }
 {
@@ -56,17 +61,18 @@ fn next_into<Input: ExecutorInput, B: SearchBudget>(
 /// The first match of a program from an offset of an input on, or the one that begins there, within a budget of steps, written to
 /// slots; none past the input's end. The room that the search needs is that of the scratch.
 ///
-/// Asks that the program is made for the input, and that a search may begin at the offset. Errs where memory is refused, and where
-/// the runs of the search take all steps of the budget or more; the slots then stay as they were.
+/// Asks what `first_within` asks. Errs where memory is refused, and where the runs of the search take all steps of the budget or more, as
+/// `first_within` does; the slots then stay as they were.
 ///
 /// ```rust
 /// let input = Utf8Input::new("aab", false, program.tables());
-/// let found = find_into_within(alloc, &mut scratch, &program, input, Anchored::No, 0, Unbounded, &mut slots)?;
+/// let found = find_into_within(alloc, &mut scratch, &program, None, input, Anchored::No, 0, Unbounded, &mut slots)?;
 /// ```
 pub fn find_into_within<Input: ExecutorInput, B: SearchBudget>(
     alloc: Global,
     scratch: &mut Scratch,
     program: &CompiledRegex,
+    table: Option<&LinearTable>,
     input: Input,
     anchored: Anchored,
     start: usize,
@@ -74,6 +80,7 @@ pub fn find_into_within<Input: ExecutorInput, B: SearchBudget>(
     slots: &mut [Option<Range>],
 ) -> Result<Option<Range>, B::Error>
     requires made { IsMadeOf program.now (Input.view input) }
+    requires linear { TellsLinear (program_of program.now) (option_copied table) }
     requires start { (place : ℕ) × Begins (reading_of (Input.view input)) start place }
     ensures of_tree { (n : ℕ) → (t : Tree) → IsLaidOutFrom (target_of program.now) n t →
         (place : ℕ) → Begins (reading_of (Input.view input)) start place →
@@ -81,10 +88,10 @@ pub fn find_into_within<Input: ExecutorInput, B: SearchBudget>(
     ensures begins { anchored ≡ Yes → IfOk result (λ found. IfSome found (λ r. r.start ≡ start)) }
     ensures inside { IfOk result (λ found. SlotsAreAtPlaces (reading_of (Input.view input)) found slots.new) }
     ensures untouched { OnErr result (slots.new ≡ slots.old) }
-    ensures stopped { IfErr result (λ e. B.is_over e → Counts anchored program.now (Input.view input) start (B.left budget) (Some 0)) }
+    ensures stopped { IfErr result (λ e. B.is_over e → Stops (option_copied table.entry) anchored program.now (Input.view input) start (B.left budget)) }
 {
     let lent = mem::replace(scratch, Scratch::new(alloc));
-    let mut executor = Backtracker::with_budget(alloc, program, input, lent, budget);
+    let mut executor = Backtracker::with_budget(alloc, program, table, input, lent, budget);
     let found = next_into(&mut executor, anchored, start, slots);
     *scratch = executor.into_scratch();
     found
@@ -118,6 +125,6 @@ pub fn find_into<Input: ExecutorInput>(
     ensures untouched { OnErr result (slots.new ≡ slots.old) }
 {
     find_into_within(
-        alloc, scratch, program, input, anchored, start, Unbounded, slots,
+        alloc, scratch, program, None, input, anchored, start, Unbounded, slots,
     )
 }

@@ -2,13 +2,14 @@
 ghost use Rattle.std.specs.Prelude.{ℕ};
 ghost use Rattle.std.specs.Iterator.{at_most};
 ghost use Rattle.regress_meaning.specs.Offsets.{of_utf16, of_ucs2, Begins};
-ghost use Rattle.regress_engine.specs.InputViews.{utf16_view, ucs2_view};
-ghost use Rattle.regress_engine.specs.Search.{StartsAt, IsMatchOf};
+ghost use Rattle.regress_engine_inputs.specs.InputViews.{utf16_view, ucs2_view};
+ghost use Rattle.regress_engine_search.specs.Search.{StartsAt, IsMatchOf};
 ghost use Rattle.regress_match.specs.Iterating.{GivesMatch};
 ghost use Rattle.regress_programs.specs.Positions.{IsPlaced, IsPlaced-prop};
 
 use crate::compiled::Compiled;
-use regress_engine::{BacktrackExecutor, Ucs2Input, Utf16Input};
+use regress_engine_exec::BacktrackExecutor;
+use regress_engine_inputs::{Ucs2Input, Utf16Input};
 use regress_front::Error;
 use regress_match::Match;
 use std::alloc::Global;

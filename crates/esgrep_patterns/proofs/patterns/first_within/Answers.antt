@@ -1,8 +1,5 @@
 use Rattle.std.proofs.Common.{[], Some, Ok, Err, arith, refl, sym, ap, ◌∙◌}
 use Rattle.regress_engine_code.specs.Standing.{names_of}
-use Rattle.regress_engine_input.specs.Views.{utf8}
-use Rattle.regress_bounded.specs.Standing.{byte_program_of, steps_of}
-use Rattle.regress_bounded.specs.Stopping.{seen_by}
 use Rattle.esgrep_patterns.proofs.HitLemmas.{later-hit}
 use Rattle.esgrep_patterns.proofs.BoundLemmas.{within-hit, given-err, given-some, handed-same, within-too_long, all-too_long}
 use Rattle.esgrep_patterns.proofs.patterns.first_within.Goals as goal
@@ -49,6 +46,5 @@ returns-in_err-found-clause-stopped c = λ err.
     let bound = c.within-bounded.ensures in
     let early = handed-same c.from_residual-in_err-found.result _ _ c.from_residual-in_err-found.ensures.1 err in
     let given = given-err c.next.result _ (sym c.transpose.ensures ∙ c.in_err-found.was) ∙ ap (λ e. Some (Err e)) early in
-    let (at, takes) = within-too_long _ _ _ _ _ c.next.result c.next.ensures.steps given (byte_program_of b) (seen_by (byte_program_of b) utf8 c.args.text.now) (steps_of b)
-    made.program made.over made.steps in
+    let (at, takes) = within-too_long _ _ _ _ _ _ c.next.result c.next.ensures.steps given b c.args.text.now made.program made.over made.turns made.steps in
     all-too_long c.args.regex.now b c.args.steps bound.compiled bound.steps c.args.text.now at takes

@@ -1,4 +1,4 @@
-use Rattle.std.proofs.Common.{◌≡◌, ℕ, ◌<◌, true, false, length, sym, ◌∙◌, arith}
+use Rattle.std.proofs.Common.{◌<◌, true, false, length, sym, ◌∙◌, arith}
 use Rattle.regress_engine_insn.specs.declared.insn.Insn.TheVariants.{Goal}
 use Rattle.regress_engine_memory.specs.Deciding.{Table}
 use Rattle.regress_engine_memory.specs.TableViews.{table_of}

@@ -9,7 +9,7 @@ use Rattle.regress_engine_runs.specs.Meets.{IsAtPlace}
 use Rattle.regress_engine_search.specs.Answering.{IsOutcome}
 use Rattle.regress_engine_search.specs.Search.{Search, IsSearchable, IsItemAtPlaces}
 use Rattle.regress_programs.specs.declared.slots.Anchored.TheVariants.{No, Yes}
-use Rattle.regress_engine.specs.Searches.{budget_of}
+use Rattle.regress_engine_exec.specs.Searches.{budget_of}
 use Rattle.regress_programs.specs.Counting.{Counts}
 use Rattle.regress_programs.specs.Filling.{first_told}
 use Rattle.regress_programs.proofs.OutcomeLemmas.{outcome-begins}

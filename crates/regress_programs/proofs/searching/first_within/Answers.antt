@@ -6,9 +6,11 @@ use Rattle.regress_engine_code.specs.declared.compiled.CompiledRegex.{CompiledRe
 use Rattle.regress_engine_code.specs.Standing.{target_of}
 use Rattle.regress_engine_input.specs.Views.{View, reading_of}
 use Rattle.regress_engine_search.specs.Search.{IsItemAtPlaces}
+use Rattle.regress_engine_exec.specs.Searches.{budget_of, turns_in}
 use Rattle.regress_programs.specs.Counting.{Counts}
 use Rattle.regress_programs.specs.Filling.{first_told}
 use Rattle.regress_programs.specs.Programs.{IsLaidOutFrom}
+use Rattle.regress_programs.proofs.SlotLemmas.{stops-as_given}
 use Rattle.regress_programs.proofs.searching.first_within.Goals as goal
 
 pub first_of-requires-clause-start : goal.first_of-requires-clause-start
@@ -38,9 +40,13 @@ returns-clause-inside g c =
 
 pub returns-clause-stopped : goal.returns-clause-stopped
 returns-clause-stopped g c =
-    let context = c.with_budget-executor.result.context in
-    let shown : g.Input.InputIndexer.view context.input ≡ g.Input.InputIndexer.view c.args.input =
-    sym (g.met.Input.ExecutorInput.shows context.input) ∙ c.with_budget-executor.ensures.text in
-    let same : context.program.now ≡ c.args.program.now = c.with_budget-executor.ensures.program in
-    subst (λ (x : CompiledRegex × View × Option ℕ). IfErr c.first_of.result (λ e. g.B.SearchBudget.is_over e → Counts c.args.anchored x.0 x.1 c.args.start x.2 (Some 0)))
-    (λ i. (same i, shown i, g.B.Budget.left (c.with_budget-executor.ensures.budget i))) c.first_of.ensures.stopped
+    let executor = c.with_budget-executor.result in
+    let shown : g.Input.InputIndexer.view executor.context.input ≡ g.Input.InputIndexer.view c.args.input =
+    sym (g.met.Input.ExecutorInput.shows executor.context.input) ∙ c.with_budget-executor.ensures.text in
+    let same : executor.context.program.now ≡ c.args.program.now = c.with_budget-executor.ensures.program in
+    let left = g.B.Budget.left in
+    stops-as_given c.first_of.result g.B.SearchBudget.is_over (turns_in executor) _ c.with_budget-executor.ensures.turns (budget_of executor) c.args.budget
+    c.with_budget-executor.ensures.budget
+    (λ b. Counts c.args.anchored c.args.program.now (g.Input.InputIndexer.view c.args.input) c.args.start (left b) (Some 0)) c.first_of.ensures.never
+    (subst (λ (x : CompiledRegex × View). IfErr c.first_of.result (λ e. g.B.SearchBudget.is_over e → Counts c.args.anchored x.0 x.1 c.args.start (left (budget_of executor)) (Some 0)))
+    (λ i. (same i, shown i)) c.first_of.ensures.stopped)

@@ -1,4 +1,4 @@
-use Rattle.std.proofs.Common.{ℕ, List, chars, map, ◌≡◌, ap, refl, sym, ◌∙◌, subst, not}
+use Rattle.std.proofs.Common.{ℕ, List, chars, map, ◌≡◌, ap, refl, sym, ◌∙◌, subst, not, Some, length}
 use Rattle.regress_meaning.specs.Flags.{is_unicode}
 use Rattle.regress_meaning.specs.Matches.{Item, match_list}
 use Rattle.regress_meaning.specs.Offsets.{Begins, of_ascii, of_utf8, told}
@@ -13,7 +13,8 @@ use Rattle.regress_engine_search.proofs.ProducerLemmas.{match-in_bytes}
 use Rattle.regress_programs.proofs.IterationLemmas.{starts-inside}
 use Rattle.regress_programs.proofs.ListedLemmas.{coming-searched, tree-searchable, searched-rises}
 use Rattle.regress_programs.proofs.UnitLemmas.{begins-anywhere}
-use Rattle.regress_bounded.specs.Coming.{search_by, next_from, budget_of}
+use Rattle.regress_engine_exec.specs.Turned.{enough_by, may_turn}
+use Rattle.regress_bounded.specs.Coming.{search_by, next_from, budget_of, turns_of}
 use Rattle.regress_bounded.specs.Standing.{steps_of, byte_program_of, tree_list}
 use Rattle.regress_bounded.specs.Stopping.{seen_by}
 use Rattle.regress_bounded.proofs.TogetherLemmas.{stops-taken}
@@ -49,17 +50,17 @@ returns-clause-matches c = λ t o p stands place begins.
 
 pub returns-clause-along : goal.returns-clause-along
 returns-clause-along c = record {
-  at = λ given now yields. ap (λ s. s.view.units) (searched-along search_by next_from budget_of c.new.result now given yields) ∙ ap (λ (v : View). v.units) (returns-clause-over c);
+  at = λ given now yields. ap (λ s. s.view.units) (searched-along search_by next_from budget_of turns_of c.new.result now given yields) ∙ ap (λ (v : View). v.units) (returns-clause-over c);
 }
 
 pub returns-clause-inside : goal.returns-clause-inside
 returns-clause-inside c =
-    each-given search_by next_from budget_of _ c.new.result
+    each-given search_by next_from budget_of turns_of _ c.new.result
     (λ m of. match-in_bytes ascii c.args.text.now refl c.requires m (subst (λ (v : View). IsItemAtPlaces (reading_of v) (item_of m)) (returns-clause-over c) of.0))
 
 pub returns-clause-starts : goal.returns-clause-starts
 returns-clause-starts c =
-    each-given search_by next_from budget_of _ c.new.result
+    each-given search_by next_from budget_of turns_of _ c.new.result
     (λ m of. starts-inside c.args.text.now c.utf8.text m
     (match-in_bytes ascii c.args.text.now refl c.requires m (subst (λ (v : View). IsItemAtPlaces (reading_of v) (item_of m)) (returns-clause-over c) of.0)))
 
@@ -72,8 +73,17 @@ returns-clause-rise c =
     let (place, begins) = begins-anywhere bytes c.args.start in
     searched-rises s (byte_program_of b) bytes is c.requires c.args.start place begins (next_from c.new.result) c.new.ensures.begins
 
+pub returns-clause-turns : goal.returns-clause-turns
+returns-clause-turns c =
+    c.new.ensures.turns
+    ∙ (λ i. may_turn (c.byte_table-table.ensures.table i) (length (c.new-input.ensures i).units) (Some (steps_of c.args.self.now)))
+
+pub returns-clause-lowered : goal.returns-clause-lowered
+returns-clause-lowered c = λ turns.
+    c.new.ensures.lowered turns ∙ (λ i. enough_by (c.byte_table-table.ensures.table i) (length (c.new-input.ensures i).units))
+
 pub returns-clause-stopped : goal.returns-clause-stopped
 returns-clause-stopped c =
     let b = c.args.self.now in
-    stops-taken search_by next_from budget_of (byte_program_of b) (seen_by (byte_program_of b) ascii c.args.text.now) c.args.start (steps_of b) c.new.result
-    c.new.ensures.program (returns-clause-over c) c.new.ensures.begins c.new.ensures.steps
+    stops-taken search_by next_from budget_of turns_of (byte_program_of b) (seen_by (byte_program_of b) ascii c.args.text.now) c.args.start (steps_of b) c.new.result
+    c.new.ensures.program (returns-clause-over c) c.new.ensures.begins _ (returns-clause-turns c) c.new.ensures.steps

@@ -1,4 +1,4 @@
-use Rattle.std.proofs.Common.{ℕ, ◌<◌, All, length, arith, ◌≡◌, ap, refl, sym, ◌∙◌, subst, not}
+use Rattle.std.proofs.Common.{ℕ, ◌<◌, All, length, arith, ◌≡◌, ap, refl, sym, ◌∙◌, subst, not, Some}
 use Rattle.std.proofs.lemmas.List.{get_or_default}
 use Rattle.regress_meaning.specs.Flags.{is_unicode}
 use Rattle.regress_meaning.specs.Offsets.{Begins, of_ucs2}
@@ -11,7 +11,8 @@ use Rattle.regress_engine_search.specs.Search.{IsItemAtPlaces}
 use Rattle.regress_programs.proofs.ListedLemmas.{coming-searched, tree-searchable}
 use Rattle.regress_programs.proofs.UnitLemmas.{begins-anywhere, match-in}
 use Rattle.regress_engine_input.proofs.UnitTexts.{single_offset}
-use Rattle.regress_bounded.specs.Coming.{search_by, next_from, budget_of}
+use Rattle.regress_engine_exec.specs.Turned.{enough_by, may_turn}
+use Rattle.regress_bounded.specs.Coming.{search_by, next_from, budget_of, turns_of}
 use Rattle.regress_bounded.specs.Standing.{steps_of, unit_program_of}
 use Rattle.regress_bounded.specs.Stopping.{seen_by}
 use Rattle.regress_bounded.proofs.TogetherLemmas.{stops-taken}
@@ -46,11 +47,20 @@ returns-clause-matches c = λ t o p stands place begins.
 pub returns-clause-inside : goal.returns-clause-inside
 returns-clause-inside c =
     let units = c.args.units.now in
-    each-given search_by next_from budget_of _ c.new.result
+    each-given search_by next_from budget_of turns_of _ c.new.result
     (λ m of. match-in (of_ucs2 units) units (single_offset units (length units) (omega arith)) m (subst (λ (v : View). IsItemAtPlaces (reading_of v) (item_of m)) (returns-clause-over c) of.0))
+
+pub returns-clause-turns : goal.returns-clause-turns
+returns-clause-turns c =
+    c.new.ensures.turns
+    ∙ (λ i. may_turn (c.unit_table-table.ensures.table i) (length (c.new-input.ensures i).units) (Some (steps_of c.args.self.now)))
+
+pub returns-clause-lowered : goal.returns-clause-lowered
+returns-clause-lowered c = λ turns.
+    c.new.ensures.lowered turns ∙ (λ i. enough_by (c.unit_table-table.ensures.table i) (length (c.new-input.ensures i).units))
 
 pub returns-clause-stopped : goal.returns-clause-stopped
 returns-clause-stopped c =
     let b = c.args.self.now in
-    stops-taken search_by next_from budget_of (unit_program_of b) (seen_by (unit_program_of b) ucs2 c.args.units.now) c.args.start (steps_of b) c.new.result
-    c.new.ensures.program (returns-clause-over c) c.new.ensures.begins c.new.ensures.steps
+    stops-taken search_by next_from budget_of turns_of (unit_program_of b) (seen_by (unit_program_of b) ucs2 c.args.units.now) c.args.start (steps_of b) c.new.result
+    c.new.ensures.program (returns-clause-over c) c.new.ensures.begins _ (returns-clause-turns c) c.new.ensures.steps

@@ -41,4 +41,4 @@ returns-clause-inside c =
 pub returns-clause-stopped : goal.returns-clause-stopped
 returns-clause-stopped c =
     let same = seen-as _ (unit_program_of c.args.self.now) utf16 c.args.units.now _ _ c.new-input.ensures (ap table c.tables.ensures) (c.is_unicode.ensures ∙ ap (λ f. is_unicode (options f)) c.flags.ensures) in
-    takes-shown c.find_into_within.result No (unit_program_of c.args.self.now) c.args.start (steps_of c.args.self.now) _ _ same c.find_into_within.ensures.stopped
+    takes-shown c.find_into_within.result _ _ c.unit_table-table.ensures.table No (unit_program_of c.args.self.now) c.args.start (steps_of c.args.self.now) _ _ same c.find_into_within.ensures.stopped

@@ -33,4 +33,4 @@ returns-in-Ok-clause-found c = λ t o p stands place begins.
 pub returns-in-Err-clause-stopped : goal.returns-in-Err-clause-stopped
 returns-in-Err-clause-stopped c = λ err.
     let same = seen-as _ (byte_program_of c.args.self.now) utf8 c.args.text.now _ _ c.new-input.ensures (ap table c.tables.ensures) (c.is_unicode.ensures ∙ ap (λ f. is_unicode (options f)) c.flags.ensures) in
-    takes-shown c.first_within.result No (byte_program_of c.args.self.now) c.args.start (steps_of c.args.self.now) _ _ same c.first_within.ensures.stopped (c.in-Err.is ∙ ap Err (let e : c.in-Err.error ≡ TooManySteps = cc in e))
+    takes-shown c.first_within.result _ _ c.byte_table-table.ensures.table No (byte_program_of c.args.self.now) c.args.start (steps_of c.args.self.now) _ _ same c.first_within.ensures.stopped (c.in-Err.is ∙ ap Err (let e : c.in-Err.error ≡ TooManySteps = cc in e))

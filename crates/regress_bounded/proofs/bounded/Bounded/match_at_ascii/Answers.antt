@@ -48,4 +48,4 @@ returns-clause-starts c = IfOk-weaker c.first_within.result _ _ (λ found lies. 
 pub returns-clause-stopped : goal.returns-clause-stopped
 returns-clause-stopped c =
     let same = seen-as _ (byte_program_of c.args.self.now) ascii c.args.text.now _ _ c.new-input.ensures (ap table c.tables.ensures) (c.is_unicode.ensures ∙ ap (λ f. is_unicode (options f)) c.flags.ensures) in
-    takes-shown c.first_within.result Yes (byte_program_of c.args.self.now) c.args.start (steps_of c.args.self.now) _ _ same c.first_within.ensures.stopped
+    takes-shown c.first_within.result _ _ c.byte_table-table.ensures.table Yes (byte_program_of c.args.self.now) c.args.start (steps_of c.args.self.now) _ _ same c.first_within.ensures.stopped

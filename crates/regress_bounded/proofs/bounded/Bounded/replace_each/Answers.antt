@@ -11,7 +11,7 @@ use Rattle.regress_engine_code.specs.Standing as code
 use Rattle.regress_engine_code.specs.declared.compiled.CompiledRegex.{CompiledRegex}
 use Rattle.regress_engine_input.specs.Views.{utf8}
 use Rattle.regress_programs.proofs.ListedLemmas.{pattern-in_text}
-use Rattle.regress_bounded.specs.Coming.{search_by, next_from, budget_of, coming, searched_names, GivesNext}
+use Rattle.regress_bounded.specs.Coming.{search_by, next_from, budget_of, turns_of, coming, searched_names, GivesNext}
 use Rattle.regress_bounded.specs.Standing.{byte_program_of, names_within, steps_of, tree_list}
 use Rattle.regress_bounded.specs.Stopping.{seen_by}
 use Rattle.regress_bounded.proofs.TogetherLemmas.{errs-taken, stops-as}
@@ -36,5 +36,5 @@ returns-clause-stopped c =
     let b = c.args.self.now in
     let ms = c.in_ok-matches.matches in
     stops-as c.replace_each.result (Errs GivesNext ms) _ c.replace_each.ensures.refused
-    (errs-taken search_by next_from budget_of (byte_program_of b) (seen_by (byte_program_of b) utf8 c.args.text.now) 0 (steps_of b) ms
-    c.in_ok-matches.ensures.program c.in_ok-matches.ensures.over c.in_ok-matches.ensures.begins c.in_ok-matches.ensures.steps)
+    (errs-taken search_by next_from budget_of turns_of (byte_program_of b) (seen_by (byte_program_of b) utf8 c.args.text.now) 0 (steps_of b) ms
+    c.in_ok-matches.ensures.program c.in_ok-matches.ensures.over c.in_ok-matches.ensures.begins _ c.in_ok-matches.ensures.turns c.in_ok-matches.ensures.steps)

@@ -9,7 +9,7 @@ use Rattle.regress_engine_code.specs.Standing as code
 use Rattle.regress_engine_code.specs.declared.compiled.CompiledRegex.{CompiledRegex}
 use Rattle.regress_engine_input.specs.Views.{utf8}
 use Rattle.regress_programs.proofs.ListedLemmas.{pattern-in_text}
-use Rattle.regress_bounded.specs.Coming.{search_by, next_from, budget_of, coming, searched_names, GivesNext}
+use Rattle.regress_bounded.specs.Coming.{search_by, next_from, budget_of, turns_of, coming, searched_names, GivesNext}
 use Rattle.regress_bounded.specs.Standing.{byte_program_of, names_within, steps_of, tree_list}
 use Rattle.regress_bounded.specs.Stopping.{seen_by}
 use Rattle.regress_bounded.proofs.TogetherLemmas.{errs-taken, turned}
@@ -38,8 +38,8 @@ returns-clause-refused_of_tree g c = λ n t laid.
     (coming ms) (map (told (of_utf8 text)) (tree_list b n t (chars text) 0)) (searched_names ms) (names_within b)
     (c.in_ok-matches.ensures.matches_of_tree n t laid) (ap (λ (x : CompiledRegex). code.names_of x) c.in_ok-matches.ensures.program)
     (λ e given. turned GivesNext ms _ g.E.From.from_gives
-    (errs-taken search_by next_from budget_of (byte_program_of b) (seen_by (byte_program_of b) utf8 text) 0 (steps_of b) ms
-    c.in_ok-matches.ensures.program c.in_ok-matches.ensures.over c.in_ok-matches.ensures.begins c.in_ok-matches.ensures.steps) e given)
+    (errs-taken search_by next_from budget_of turns_of (byte_program_of b) (seen_by (byte_program_of b) utf8 text) 0 (steps_of b) ms
+    c.in_ok-matches.ensures.program c.in_ok-matches.ensures.over c.in_ok-matches.ensures.begins _ c.in_ok-matches.ensures.turns c.in_ok-matches.ensures.steps) e given)
     c.replace_with.ensures.refused
 
 pub returns-clause-refused : goal.returns-clause-refused

@@ -7,7 +7,7 @@ use Rattle.regress_matched.proofs.SplittingLemmas.{split-made, split-errs}
 use Rattle.regress_engine_input.specs.Views.{utf8}
 use Rattle.regress_engine_exec.specs.declared.error.SearchError.TheVariants.{TooManySteps}
 use Rattle.regress_programs.proofs.ListedLemmas.{pattern-in_text}
-use Rattle.regress_bounded.specs.Coming.{search_by, next_from, budget_of, coming, GivesNext}
+use Rattle.regress_bounded.specs.Coming.{search_by, next_from, budget_of, turns_of, coming, GivesNext}
 use Rattle.regress_bounded.specs.Standing.{byte_program_of, steps_of, tree_list}
 use Rattle.regress_bounded.specs.Stopping.{seen_by}
 use Rattle.regress_bounded.proofs.TogetherLemmas.{errs-taken}
@@ -28,6 +28,6 @@ pub returns-clause-stopped : goal.returns-clause-stopped
 returns-clause-stopped c = λ given old new yields step.
     let b = c.args.self.now in
     let ms = c.in_ok-matches.matches in
-    errs-taken search_by next_from budget_of (byte_program_of b) (seen_by (byte_program_of b) utf8 c.args.text.now) 0 (steps_of b) ms
-    c.in_ok-matches.ensures.program c.in_ok-matches.ensures.over c.in_ok-matches.ensures.begins c.in_ok-matches.ensures.steps
+    errs-taken search_by next_from budget_of turns_of (byte_program_of b) (seen_by (byte_program_of b) utf8 c.args.text.now) 0 (steps_of b) ms
+    c.in_ok-matches.ensures.program c.in_ok-matches.ensures.over c.in_ok-matches.ensures.begins _ c.in_ok-matches.ensures.turns c.in_ok-matches.ensures.steps
     (subst (λ x. Errs GivesNext x TooManySteps) c.new.ensures.matches (split-errs GivesNext coming given c.new.result old new TooManySteps yields step))

@@ -4,8 +4,8 @@ use Rattle.regress_match.specs.declared.found.Match.{Match}
 use Rattle.regress_match.specs.Iterating.{steps_on}
 use Rattle.regress_engine_exec.specs.Searches.{search_in}
 use Rattle.regress_engine_search.specs.Search.{Search, IsPosition, places_behind}
-use Rattle.regress_bounded.specs.Coming.{search_by}
-use Rattle.regress_bounded.proofs.StepLemmas.{step-given, step-ends, step-nearer}
+use Rattle.regress_bounded.specs.Coming.{search_by, turns_of}
+use Rattle.regress_bounded.proofs.StepLemmas.{step-given, step-ends, step-nearer, step-never}
 use Rattle.regress_bounded.proofs.matches.BoundedMatchesIterator.next.Goals as goal
 
 pub invariant_of-self : goal.invariant_of-self
@@ -21,6 +21,8 @@ returns-clause-steps g c =
       ends = step-ends s after c.step.ensures.kept c.args.self.now.position c.step.new.position c.step.result c.step.ensures.stepped;
       ended = c.step.ensures.ended;
       counted = c.step.ensures.counted;
+      turns = c.step.ensures.turns;
+      never = step-never (turns_of c.args.self.now) c.step.result c.step.ensures.never;
     }
 
 pub returns-clause-goes : goal.returns-clause-goes

@@ -49,5 +49,7 @@ returns g c =
       nearer = on.nearer;
       kept = search rules;
       last = search rules;
+      turns = c.find_from.ensures.turns;
+      never = tt;
       counted = subst (λ x. CountsSearch (program_of context.program.now) x c.args.position (g.B.Budget.left (budget_of c.args.self.now)) (g.B.Budget.left (budget_of c.find_from.new.self))) (sym (g.met.Input.ExecutorInput.shows context.input)) c.in_ok-found.ensures.counted;
     }

@@ -1,4 +1,4 @@
-use Rattle.std.specs.Prelude.{map, nat_lt}
+use Rattle.std.specs.Prelude.{nat_lt}
 use Rattle.std.proofs.Common.{◌≡◌, ◌&&◌, ◌==◌, true, length, sym, ap, ap₂, ◌∙◌, subst}
 use Rattle.std.proofs.lemmas.List.{length-map}
 use Rattle.regress_engine_insn.specs.InsnViews.{instruction}

@@ -1,8 +1,11 @@
-use Rattle.std.proofs.Common.{true, false, arith}
+use Rattle.std.proofs.Common.{true, false, arith, sym, subst}
 use Rattle.regress_meaning.specs.Flags.{is_unicode}
 use Rattle.regress_front.specs.FlagWords.{options}
 use Rattle.regress_front.specs.TableViews.{table}
+use Rattle.regress_front.specs.Sizes.{spread}
 use Rattle.regress_front.specs.Trees.{tree}
+use Rattle.regress_engine_code.specs.declared.compiled.CompiledRegex.{CompiledRegex}
+use Rattle.regress_programs.specs.Programs.{IsProgramOf, HaveFewInstructions}
 use Rattle.std.proofs.lemmas.Result.{err_from_is_err_and}
 use Rattle.regress_programs.proofs.ProgramLemmas.{as-rewritten, read-program, program-refused, refused-fits}
 use Rattle.regress_programs.proofs.compiled.Compiled.of_tree.Goals as goal
@@ -44,8 +47,10 @@ returns-in_err-byte_program-clause-fits c = λ made t o text p from plain short.
 pub returns-clause-accepted : goal.returns-clause-accepted
 returns-clause-accepted c = λ made t o text p from.
     let read = as-rewritten made t o text p c.args.regex from c.rewrite.new.regex c.rewrite.ensures.rewritten c.rewrite.ensures.kept.0 c.rewrite.ensures.kept.1 in (
-      read-program made t o text p c.rewrite.new.regex read c.in_ok-byte_program.byte_program c.in_ok-byte_program.ensures.emitted,
-      read-program made t o text p c.rewrite.new.regex read c.in_ok-unit_program.unit_program c.in_ok-unit_program.ensures.emitted,
+      subst (λ (x : CompiledRegex). IsProgramOf x t o (made p)) (sym c.of_programs.ensures.bytes)
+          (read-program made t o text p c.rewrite.new.regex read c.in_ok-byte_program.byte_program c.in_ok-byte_program.ensures.emitted),
+      subst (λ (x : CompiledRegex). IsProgramOf x t o (made p)) (sym c.of_programs.ensures.units)
+          (read-program made t o text p c.rewrite.new.regex read c.in_ok-unit_program.unit_program c.in_ok-unit_program.ensures.emitted),
     )
 
 pub returns-clause-small : goal.returns-clause-small
@@ -56,7 +61,10 @@ returns-clause-small c =
     let bytes = c.in_ok-byte_program.byte_program in
     let units = c.in_ok-unit_program.unit_program in
     let few_bytes = c.spreads_bound_counts.ensures bytes.units (table new.tables.now) (is_unicode (options new.flags)) n (tree new.node) rewritten.well_formed.lawful in
-    let few_units = c.spreads_bound_counts.ensures units.units (table new.tables.now) (is_unicode (options new.flags)) n (tree new.node) rewritten.well_formed.lawful in (
+    let few_units = c.spreads_bound_counts.ensures units.units (table new.tables.now) (is_unicode (options new.flags)) n (tree new.node) rewritten.well_formed.lawful in
+    let few : HaveFewInstructions (spread (tree c.args.regex.node)) bytes units = (
       omega (arith, c.in_ok-byte_program.ensures.emitted.counted, few_bytes, rewritten.few_spread),
       omega (arith, c.in_ok-unit_program.ensures.emitted.counted, few_units, rewritten.few_spread),
-    )
+    ) in
+    subst (λ (x : CompiledRegex × CompiledRegex). HaveFewInstructions (spread (tree c.args.regex.node)) x.0 x.1)
+    (λ i. (sym c.of_programs.ensures.bytes i, sym c.of_programs.ensures.units i)) few

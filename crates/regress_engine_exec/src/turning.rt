@@ -1,0 +1,121 @@
+//! What searches turn to where no more steps may be counted.
+ghost use Rattle.std.specs.Prelude.{◌≡◌, true, false, Some, None, IfOk, IfSome, is_some, map, option_copied};
+ghost use Rattle.regress_engine_code.specs.Standing.{program_of};
+ghost use Rattle.regress_engine_input.specs.Views.{input_of, reading_of};
+ghost use Rattle.regress_engine_runs.specs.Meets.{IsAtPlace};
+ghost use Rattle.regress_engine_search.specs.Answering.{IsAnswer, IsFound};
+ghost use Rattle.regress_engine_search.specs.StateViews.{marks_of};
+ghost use Rattle.regress_engine_exec.specs.Turned.{Turns, enough_by, fits_told, linear_steps, may_turn};
+
+use crate::budget::SearchBudget;
+use regress_engine_answers::TextTable;
+use regress_engine_linear::LinearTable;
+use regress_engine_search::{ExecutorInput, SearchContext};
+use regress_front_core::GroupData;
+use std::alloc::{AllocError, Global};
+
+/// What is told of the offsets of a text takes at most so many bits: 64 MB.
+pub const MOST_TOLD: usize = 1 << 29;
+
+/// So many steps for each address of a program, at each offset of a text and at 64 more, are enough for all searches for the matches of a
+/// linear program.
+pub const LINEAR_STEPS: usize = 4;
+
+/// Whether what is told of a text of so many units takes no more: a bit for each address of a program at each offset.
+pub(crate) fn fits_told(table: &LinearTable, units: usize) -> bool
+    ensures { result ≡ fits_told table.now units }
+{
+    units < MOST_TOLD && table.count().saturating_mul(units + 1) <= MOST_TOLD
+}
+
+/// How many steps are enough for all searches for the matches of a linear program in a text of so many units: an executor with so many or
+/// more turns to tables after them. `None` where what is told of the text would take more than `MOST_TOLD` bits.
+///
+/// ```rust
+/// let steps = linear_steps(&table, text.len());
+/// ```
+pub fn linear_steps(table: &LinearTable, units: usize) -> Option<usize>
+    ensures { result ≡ linear_steps table.now units }
+{
+    if !fits_told(table, units) {
+        return None;
+    }
+    Some(LINEAR_STEPS * (table.count() * (units + 64)))
+}
+
+/// The table of a program that is linear, and that of a text, where it was made.
+#[derive(Debug, Drop)]
+pub struct Turning<'r> {
+    /// The program's.
+    pub(crate) table: &'r LinearTable,
+    /// The text's.
+    pub(crate) told: Option<TextTable>,
+}
+
+/// What searches in a text of so many units turn to, if they are given the table of their program and the budget has enough steps, to which
+/// it is lowered; else they turn to nothing, and the budget stays as it was.
+pub(crate) fn turning_over<'r, B: SearchBudget>(
+    table: Option<&'r LinearTable>,
+    units: usize,
+    budget: &mut B,
+) -> Option<Turning<'r>>
+    ensures turns { is_some result ≡ may_turn (option_copied table.entry) units (B.left budget.old) }
+    ensures kept { is_some result ≡ false → budget.new ≡ budget.old }
+    ensures lowered { is_some result ≡ true → B.left budget.new ≡ enough_by (option_copied table.entry) units }
+    ensures table { IfSome result (λ t. (option_copied table.entry ≡ Some t.table.now) × (fits_told t.table.now units ≡ true)) }
+    ensures untold { IfSome result (λ t. t.told ≡ None) }
+{
+    let table = table?;
+    let steps = linear_steps(table, units)?;
+    budget.lower(steps).then_some(Turning { table, told: None })
+}
+
+impl<'r> Turning<'r> {
+    /// Searches from an offset on by the table of the text, which is made and kept where it is not there yet. It answers the offset from
+    /// which the first run has an answer, and where that ends; the answer's groups are written. It errs where memory is refused.
+    pub(crate) fn first_from<Input: ExecutorInput>(
+        &mut self,
+        alloc: Global,
+        context: &SearchContext<'_, Input>,
+        groups: &mut Vec<GroupData<usize>>,
+        offset: usize,
+    ) -> Result<Option<(usize, usize)>, AllocError>
+        requires turns { Turns (program_of context.now.program.now) (Input.view context.now.input) self.old }
+        requires place { IsAtPlace (reading_of (Input.view context.now.input)) offset }
+        ensures found { IfOk result (λ found. IsFound (program_of context.now.program.now) (input_of (Input.view context.now.input)) offset found (map marks_of groups.new.items)) }
+        ensures turns { Turns (program_of context.now.program.now) (Input.view context.now.input) self.new }
+    {
+        let mut steps = 0;
+        if let Some(told) = &self.told {
+            return told.first_from(self.table, context, offset, groups, &mut steps);
+        }
+        let told = TextTable::of(alloc, self.table, context)?;
+        let found = told.first_from(self.table, context, offset, groups, &mut steps);
+        self.told = Some(told);
+        found
+    }
+
+    /// Runs the program from an offset by the table of the text, which is made and kept where it is not there yet. It answers where the
+    /// run's answer ends, whose groups are written. It errs where memory is refused.
+    pub(crate) fn run_from<Input: ExecutorInput>(
+        &mut self,
+        alloc: Global,
+        context: &SearchContext<'_, Input>,
+        groups: &mut Vec<GroupData<usize>>,
+        offset: usize,
+    ) -> Result<Option<usize>, AllocError>
+        requires turns { Turns (program_of context.now.program.now) (Input.view context.now.input) self.old }
+        requires place { IsAtPlace (reading_of (Input.view context.now.input)) offset }
+        ensures answer { IfOk result (λ end. IsAnswer (program_of context.now.program.now) (input_of (Input.view context.now.input)) offset end (map marks_of groups.new.items)) }
+        ensures turns { Turns (program_of context.now.program.now) (Input.view context.now.input) self.new }
+    {
+        let mut steps = 0;
+        if let Some(told) = &self.told {
+            return told.run_from(self.table, context, offset, groups, &mut steps);
+        }
+        let told = TextTable::of(alloc, self.table, context)?;
+        let end = told.run_from(self.table, context, offset, groups, &mut steps);
+        self.told = Some(told);
+        end
+    }
+}
