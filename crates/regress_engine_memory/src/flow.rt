@@ -38,18 +38,23 @@ pub struct FlowTable {
     pub(crate) needs: Needs,
 }
 
-/// Whether each of some numbers is among others.
+/// Whether each of some numbers is among others. Most often the others begin with them, as the loops around an address are told from the
+/// outermost on.
 fn are_among(some: &[usize], others: &[usize]) -> bool
     ensures { result ≡ list_all (holds others.now) some.now }
 {
-    some.iter().all(|id| others.contains(id))
+    others.starts_with(some) || some.iter().all(|id| others.contains(id))
 }
 
-/// The same, where one more number is among the others.
+/// The same, where one more number is among the others. Most often it is the last.
 fn are_among_or(some: &[usize], one: usize, others: &[usize]) -> bool
     ensures { result ≡ list_all (holds (one ∷ others.now)) some.now }
 {
-    some.iter().all(|id| one == *id || others.contains(id))
+    let rest = match some.split_last() {
+        Some((last, rest)) if *last == one => rest,
+        _ => some,
+    };
+    others.starts_with(rest) || some.iter().all(|id| one == *id || others.contains(id))
 }
 
 /// Whether the instruction at an address refers to a group.
