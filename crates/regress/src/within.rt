@@ -45,8 +45,8 @@ impl Regex {
         Bounded::new(self.alloc, &self.compiled, steps)
     }
 
-    /// Whether the pattern is known to be linear: by tables, which were made when it was compiled, a search takes time that grows as its
-    /// program and the text do, and no more, whatever the text is.
+    /// Whether the pattern is known to be linear, by tables that were made when it was compiled. A search of such a pattern `within` as many
+    /// steps as `linear_steps` tells has enough of them, whatever the text is. A search without a bound goes no other way for it.
     ///
     /// A pattern is linear that has no back reference and no atomic group; whose repetitions may go on without end or are of one iteration
     /// at most, with a least number of 0 or 1, or are of one character and have numbers up to 256; in which what is repeated

@@ -1,4 +1,4 @@
-//! Programs of which a search takes time that grows as program and text do.
+//! Programs of which a table, a bit for each address at each offset of a text, tells whether runs have an answer.
 #![tactic(auto)]
 
 mod laws;
