@@ -115,7 +115,7 @@ impl<'r, Input: ExecutorInput, B: SearchBudget> Backtracker<'r, Input, B> {
 
     /// The executor of a program over a text, with room that other searches have left, and a budget for all its searches. If it is given the
     /// table of its program and the budget has enough steps (`linear_steps`), the budget is lowered to these, and where no more may be counted
-    /// its searches go on by a table of the text: in time that grows as program and text do, and none errs with `TooManySteps`.
+    /// its searches go on by a table of the text, at most a step for each of its bits, and none errs with `TooManySteps`.
     ///
     /// Asks that the program is made for the text: of units over UTF-16 and UCS-2, else of bytes, with the text's tables and
     /// mode; and that it is linear by its table, if one is given.
