@@ -22,7 +22,7 @@ all-pass : (test : ℕ → Bool) (ids : List ℕ) → ((id : ℕ) → holds ids 
 all-pass test [] each = refl
 all-pass test (x ∷ ids) each =
     and_from (test x) (list_all test ids) (each x (or_left (x == x) (holds ids x) (eq-eqb x x refl)))
-      (all-pass test ids (λ id h. each id (or_right (x == id) (holds ids id) h)))
+    (all-pass test ids (λ id h. each id (or_right (x == id) (holds ids id) h)))
 
 -- each of some numbers is among those that begin with them
 pub front-among : (others ids more : List ℕ) → others ≡ ids ++ more → list_all (holds others) ids ≡ true
@@ -38,8 +38,8 @@ front-among_or one others ids more e =
 pub front-among_last : (one : ℕ) (others ids more : List ℕ) → others ≡ ids ++ more → list_all (holds (one ∷ others)) (ids ++ one ∷ []) ≡ true
 front-among_last one others ids more e =
     list_all-append (holds (one ∷ others)) ids (one ∷ [])
-      ∙ and_from (list_all (holds (one ∷ others)) ids) (list_all (holds (one ∷ others)) (one ∷ [])) (front-among_or one others ids more e)
-        (and_from (holds (one ∷ others) one) true (or_left (one == one) (holds others one) (eq-eqb one one refl)) refl)
+    ∙ and_from (list_all (holds (one ∷ others)) ids) (list_all (holds (one ∷ others)) (one ∷ [])) (front-among_or one others ids more e)
+    (and_from (holds (one ∷ others) one) true (or_left (one == one) (holds others one) (eq-eqb one one refl)) refl)
 
 -- what holds of each of some numbers, one by one, holds of what is among them
 pub each-held : (P : ℕ → Type 0) (ids : List ℕ) → ((k : ℕ) → k < length ids → P (get_or ids k 0)) → (id : ℕ) → holds ids id ≡ true → P id

@@ -9,4 +9,4 @@ returns-then-starts_with c =
     let some = c.args.some.now in
     let others = c.args.others.now in
     c.if-starts_with.true
-      ∙ sym (front-among others some (drop (length some) others) ((starts_is Decides-eqb others some _ c.starts_with.ensures.value).0 c.if-starts_with.true))
+    ∙ sym (front-among others some (drop (length some) others) ((starts_is Decides-eqb others some _ c.starts_with.ensures.value).0 c.if-starts_with.true))

@@ -18,13 +18,13 @@ returns-then-starts_with c =
     let all_rest : list_all (holds (one ∷ others)) rest ≡ true = front-among_or one others rest more begins in
     let whole : rest ≡ some → list_all (holds (one ∷ others)) some ≡ true = λ e. sym (ap (list_all (holds (one ∷ others))) e) ∙ all_rest in
     let all : list_all (holds (one ∷ others)) some ≡ true =
-        elim c.match-split_last.branch [
-          | in-Some w ↦
-              let ends : some ≡ rest ++ one ∷ [] =
-                  w.in-Some.ensures.cases.0 ∙ ap (λ x. w.in-Some.rest.now ++ x ∷ []) w.if-last-one.true
-                  ∙ ap (λ (r : Bor (List ℕ)). r.now ++ one ∷ []) (sym w.rest-is) in
-              ap (list_all (holds (one ∷ others))) ends ∙ front-among_last one others rest more begins
-          | in_default-2 w ↦ whole (ap (λ (r : Bor (List ℕ)). r.now) w.rest-is)
-          | in_default w ↦ whole (ap (λ (r : Bor (List ℕ)). r.now) w.rest-is)
-        ] in
+    elim c.match-split_last.branch [
+      | in-Some w ↦
+          let ends : some ≡ rest ++ one ∷ [] =
+          w.in-Some.ensures.cases.0 ∙ ap (λ x. w.in-Some.rest.now ++ x ∷ []) w.if-last-one.true
+          ∙ ap (λ (r : Bor (List ℕ)). r.now ++ one ∷ []) (sym w.rest-is) in
+          ap (list_all (holds (one ∷ others))) ends ∙ front-among_last one others rest more begins
+      | in_default-2 w ↦ whole (ap (λ (r : Bor (List ℕ)). r.now) w.rest-is)
+      | in_default w ↦ whole (ap (λ (r : Bor (List ℕ)). r.now) w.rest-is)
+    ] in
     c.if-starts_with.true ∙ sym all
