@@ -395,20 +395,23 @@ static inline int32_t regress_pattern_text(regress_pattern *pattern, char *buffe
   return pattern == NULL || to == NULL || written == NULL ? REGRESS_NULL : regress_raw_pattern_text(pattern, to, room, written);
 }
 
-/* Answers 1 where the pattern is known to be linear, and else 0. A search of such a pattern to which regress_search_set_max_steps gives as
- * many steps as regress_linear_steps tells has enough of them, whatever the text is. A search without a bound goes no other way for it.
+/* Works out whether the pattern is linear: answers 1 where it is, and else 0. A search of such a pattern that is made from now on, and to
+ * which regress_search_set_max_steps gives as many steps as regress_linear_steps tells, has enough of them, whatever the text is. A
+ * search without a bound goes no other way for it, and neither does one that was made before. The pattern keeps what is learned, and
+ * regress_share hands it on. What isn't linear is worked out anew at each call, in about the time that compiling takes.
  *
  * A pattern is linear that has no back reference; whose repetitions have no greatest number, or 1, and a least number of 0 or 1, or are
  * of one character and have numbers up to 256; in which nothing that may be empty is repeated; and whose lookarounds hold no groups or are
- * negated, with no lookahead inside a lookbehind. It has at most 65,536 instructions, and no atomic group. Where memory for the tables
- * was refused it isn't known to be. The caller keeps: no other call has the handle. */
+ * negated, with no lookahead inside a lookbehind. It has at most 65,536 instructions, and no atomic group. Where memory is refused the
+ * answer is REGRESS_OUT_OF_MEMORY, or 0. The caller keeps: no other call has the handle. */
 static inline int32_t regress_is_linear(regress_pattern *pattern) {
   return pattern == NULL ? REGRESS_NULL : regress_raw_is_linear(pattern);
 }
 
 /* Writes to `steps` how many steps are enough for each search in a text of `length` bytes or units, or of fewer: a search of the pattern
- * to which regress_search_set_max_steps gives so many or more never ends in REGRESS_TOO_MANY_STEPS there. Once it has taken them it goes
- * on by a table of the text, of a bit for each instruction of the program at each offset.
+ * that is made from now on, and to which regress_search_set_max_steps gives so many or more, never ends in REGRESS_TOO_MANY_STEPS there.
+ * Once it has taken them it goes on by a table of the text, of a bit for each instruction of the program at each offset. It learns as
+ * regress_is_linear does.
  *
  * It writes SIZE_MAX where the pattern isn't known to be linear, and where the table of such a text would take more than 64 MB. That is no
  * number of steps: it would take the bound away. The caller keeps: `steps` points to a number that lies in no other argument, and no other
@@ -505,8 +508,8 @@ static inline int32_t regress_search_new(regress_pattern *pattern, regress_searc
  * units that a class passes over or that a back reference compares. Looking for the next place where a match may begin is not counted.
  * No clock plays a part: in one version of the library the same search stops at the same step everywhere.
  *
- * Where regress_is_linear answers 1, a search with as many steps as regress_linear_steps tells, or more, never ends in
- * REGRESS_TOO_MANY_STEPS.
+ * Where regress_is_linear answered 1 before the search was made, a search with as many steps as regress_linear_steps tells, or more, never
+ * ends in REGRESS_TOO_MANY_STEPS.
  *
  * The bound is the handle's alone: another search of the same pattern has its own, and calls that take a pattern have none. The
  * caller keeps: no other call has the search. */

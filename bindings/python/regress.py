@@ -335,6 +335,8 @@ def _compiled(source, flags, limit, is_whole=False):
 
 def _search_of(pattern, max_steps):
     search = _Handle()
+    if max_steps is not None:
+        _check(_is_linear(pattern))  # a search knows of it that is made afterwards
     _check(_search_new(pattern, search))
     if max_steps is not None:
         _check(_search_set_max_steps(search, min(max_steps, _UNSET)))
@@ -386,13 +388,13 @@ class Pattern:
 
     @property
     def linear(self):
-        """Whether the pattern is known to be linear: a search with as many `max_steps` as `linear_steps` tells has enough of them, whatever
+        """Whether the pattern is linear: a search with as many `max_steps` as `linear_steps` tells has enough of them, whatever
         the string is. A search without a bound goes no other way for it.
 
         A pattern is linear that has no back reference; whose repetitions have no greatest number, or 1, and a least number of 0 or 1,
         or are of one character and have numbers up to 256; in which nothing that may be empty is repeated; and whose lookarounds hold no
         groups or are negated, with no lookahead inside a lookbehind. It has at most 65,536 instructions, and no atomic group. Where
-        memory for the tables was refused it isn't known to be.
+        memory for the tables is refused it isn't known to be. To work it out takes about as long as compiling the pattern.
         """
         code = _is_linear(self._compiled)
         _check(code)

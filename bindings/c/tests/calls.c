@@ -319,6 +319,10 @@ static void bounding_linear(void) {
   CHECK(regress_find(&bounded, letters, 5000, 0, ranges, 2) == REGRESS_TOO_MANY_STEPS);
   CHECK(regress_search_set_max_steps(&bounded, fewest) == REGRESS_OK);
   CHECK(regress_find(&bounded, letters, 5000, 0, ranges, 2) == 0);
+  CHECK(regress_compile(TEXT("(?:ab?)*c"), "", &tables, &other, NULL) == REGRESS_OK); /* a search that was made before it is asked */
+  CHECK(regress_search_new(&other, &bounded) == REGRESS_OK && regress_is_linear(&other) == 1);
+  CHECK(regress_search_set_max_steps(&bounded, fewest) == REGRESS_OK);
+  CHECK(regress_find(&bounded, letters, 5000, 0, ranges, 2) == REGRESS_TOO_MANY_STEPS);
   CHECK(regress_compile(TEXT("(?:(a)\\1|a|ab)*c"), "", &tables, &other, NULL) == REGRESS_OK);
   CHECK(regress_search_new(&other, &bounded) == REGRESS_OK);
   CHECK(regress_search_set_max_steps(&bounded, steps) == REGRESS_OK);

@@ -67,7 +67,7 @@ static const struct {
 } calls[] = {{"tables_small", make_tables, 1}, {"compile", compile, 1},         {"compile_whole", compile_whole, 1},
              {"compile_units", compile_units, 1}, {"compile_within", compile_within, 1}, {"share", share, 1},          {"search_new", make_search, 1},
              {"pattern_text", text_of, 0},     {"group_name", name, 0},         {"group_numbers", numbers, 0},
-             {"is_linear", is_linear, 0},      {"linear_steps", linear_steps, 0},
+             {"is_linear", is_linear, 1},      {"linear_steps", linear_steps, 1},
              {"replace", replace, 1},          {"replace_all", replace_all, 1}, {"escape", escape, 1}};
 
 /* Grants a call so many requests: answers whether it asked for more. */

@@ -143,7 +143,7 @@ impl Handle {
         Handle::compile(sys::regress_raw_compile_units_within, pattern, flags, sys::DEFAULT_LIMIT)
     }
 
-    /// Whether a pattern is known to be linear.
+    /// Whether a pattern is linear. Searches of it know of that which are made afterwards.
     pub fn is_linear(&mut self) -> bool {
         // SAFETY: a handle that is borrowed for this call alone.
         expect_done(unsafe { sys::regress_raw_is_linear(&mut self.0) }) == 1

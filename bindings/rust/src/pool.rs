@@ -11,11 +11,34 @@ pub struct Pool(Mutex<Kept>);
 struct Kept {
     pattern: Handle,
     idle: Vec<Handle>,
+    /// Whether the pattern is linear, once that was asked.
+    is_linear: Option<bool>,
+}
+
+impl Kept {
+    /// Whether the pattern is linear. Searches that were made before it was asked do not know of it, so they go.
+    fn is_linear(&mut self) -> bool {
+        if let Some(known) = self.is_linear {
+            return known;
+        }
+        let known = self.pattern.is_linear();
+        self.is_linear = Some(known);
+        self.idle.clear();
+        known
+    }
+
+    /// A search, one that is idle where there is one.
+    fn search(&mut self) -> Handle {
+        match self.idle.pop() {
+            Some(search) => search,
+            None => self.pattern.search(),
+        }
+    }
 }
 
 impl Pool {
     pub fn new(pattern: Handle) -> Pool {
-        Pool(Mutex::new(Kept { pattern, idle: Vec::new() }))
+        Pool(Mutex::new(Kept { pattern, idle: Vec::new(), is_linear: None }))
     }
 
     /// A pool of its own for the same pattern, which is not compiled again.
@@ -23,32 +46,34 @@ impl Pool {
         Pool::new(lock(&self.0).pattern.share())
     }
 
-    /// Whether the pattern is known to be linear.
+    /// Whether the pattern is linear.
     pub fn is_linear(&self) -> bool {
-        lock(&self.0).pattern.is_linear()
+        lock(&self.0).is_linear()
     }
 
     /// How many steps are enough for each search in a text of so many bytes or units, where that is known.
     pub fn linear_steps(&self, length: usize) -> Option<usize> {
-        lock(&self.0).pattern.linear_steps(length)
+        let mut kept = lock(&self.0);
+        if !kept.is_linear() {
+            return None;
+        }
+        kept.pattern.linear_steps(length)
     }
 
     /// Takes a search, one that is idle where there is one. The lock is held for that alone.
     pub fn take(&self) -> Taken<'_> {
         let mut kept = lock(&self.0);
-        let search = match kept.idle.pop() {
-            Some(search) => search,
-            None => kept.pattern.search(),
-        };
-        Taken { pool: self, search: Some(search), is_bounded: false }
+        let knows = kept.is_linear.is_some();
+        Taken { pool: self, search: Some(kept.search()), is_bounded: false, knows }
     }
 
     /// Takes a search that may take so many steps for each match.
     pub fn take_within(&self, steps: usize) -> Taken<'_> {
-        let mut taken = self.take();
-        taken.set_max_steps(steps);
-        taken.is_bounded = true;
-        taken
+        let mut kept = lock(&self.0);
+        kept.is_linear();
+        let mut search = kept.search();
+        search.set_max_steps(steps);
+        Taken { pool: self, search: Some(search), is_bounded: true, knows: true }
     }
 }
 
@@ -57,6 +82,8 @@ pub struct Taken<'p> {
     pool: &'p Pool,
     search: Option<Handle>,
     is_bounded: bool,
+    /// Whether it was made after the pattern was asked whether it is linear.
+    knows: bool,
 }
 
 impl Deref for Taken<'_> {
@@ -78,7 +105,10 @@ impl Drop for Taken<'_> {
         if self.is_bounded {
             self.set_max_steps(NO_BOUND);
         }
-        lock(&self.pool.0).idle.extend(self.search.take());
+        let mut kept = lock(&self.pool.0);
+        if self.knows || kept.is_linear.is_none() {
+            kept.idle.extend(self.search.take());
+        }
     }
 }
 

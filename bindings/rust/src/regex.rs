@@ -111,13 +111,13 @@ impl Regex {
         Bounded::new(self, steps)
     }
 
-    /// Whether the pattern is known to be linear: a search by [`Regex::within`] with as many steps as [`Regex::linear_steps`] tells has
+    /// Whether the pattern is linear: a search by [`Regex::within`] with as many steps as [`Regex::linear_steps`] tells has
     /// enough of them, whatever the text is. A search without a bound goes no other way for it.
     ///
     /// A pattern is linear that has no back reference; whose repetitions have no greatest number, or 1, and a least number of 0 or 1,
     /// or are of one character and have numbers up to 256; in which nothing that may be empty is repeated; and whose lookarounds hold no groups or
     /// are negated, with no lookahead inside a lookbehind. It has at most 65,536 instructions, and no atomic group. Where memory for the
-    /// tables was refused it isn't known to be.
+    /// tables is refused it isn't known to be. It is worked out once, when it is asked or a search is first bounded.
     ///
     /// ```
     /// use regress_proved::Regex;

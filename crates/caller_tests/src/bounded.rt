@@ -160,9 +160,11 @@ fn texts_in_so_many_steps(rt: HostRuntime) -> Result<(), Fail> {
 fn a_linear_pattern_is_searched_in_enough_steps(rt: HostRuntime) -> Result<(), Fail> {
     let tables = Tables::small(rt.alloc())?;
     // From each letter the lookahead goes on to the end: without a table the steps grow as the square of the length.
-    let regex = compiled(rt.alloc(), "(?:(?=(?:a|d)*b)a)*c", "", &tables)?;
+    let mut regex = compiled(rt.alloc(), "(?:(?=(?:a|d)*b)a)*c", "", &tables)?;
     let mut text = "a".repeat(rt.alloc(), 2_000)?;
     text.push('b')?;
+    assert!(rt; !regex.is_linear() && regex.linear_steps(text.len()) == None);
+    assert!(rt; regex.learn_linear() && regex.is_linear());
     assert!(rt; ends(first_linear(&regex, text.as_str())?) == None);
     let enough = regex.linear_steps(text.len()).unwrap_or(0);
     assert!(rt; regex.within(enough).is_match(text.as_str()) == Ok(false));

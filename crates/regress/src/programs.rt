@@ -14,8 +14,8 @@ use std::alloc::Global;
 
 impl Regex {
     /// A regex of two programs, which may be those of two patterns: searches in texts go by the program of bytes, searches in
-    /// 16-bit units by that of units. Its groups are those of the program of bytes, and its text is empty. It keeps the allocator for
-    /// its searches. Where memory for it is refused, the programs are not known to be linear (`is_linear`).
+    /// 16-bit units by that of units. Its groups are those of the program of bytes, and its text is empty. It takes no memory,
+    /// and keeps the allocator for its searches.
     ///
     /// Asks for one program of each kind, as `is_unit_program` tells.
     ///
@@ -35,7 +35,7 @@ impl Regex {
         ensures named { names_of_regex result ≡ names_of byte_program }
         ensures text { source_of result ≡ [] }
     {
-        let compiled = Compiled::of_programs(alloc, byte_program, unit_program);
+        let compiled = Compiled::of_programs(byte_program, unit_program);
         Regex {
             alloc,
             source: None,

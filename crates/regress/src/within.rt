@@ -1,12 +1,12 @@
 //! Searches that may take so many steps, and no more.
-ghost use Rattle.std.specs.Prelude.{◌≡◌, ◌≤◌, ℕ, None, IfSome};
+ghost use Rattle.std.specs.Prelude.{◌≡◌, ◌≤◌, ℕ, None, true, IfSome};
 ghost use Rattle.regress_meaning.specs.Table.{Table};
 ghost use Rattle.regress_meaning.specs.Pattern.{Pattern};
 ghost use Rattle.regress_meaning.specs.Flags.{Options};
 ghost use Rattle.regress_front.specs.Trees.{Tree};
 ghost use Rattle.regress_bounded.specs.Standing as bounded;
 ghost use Rattle.regress.specs.Linear.{AreEnough, is_linear};
-ghost use Rattle.regress.specs.Standing.{StandsFor, StandsInUnits, HasTree, HasTreeInUnits, names_of_regex};
+ghost use Rattle.regress.specs.Standing.{StandsFor, StandsInUnits, HasTree, HasTreeInUnits, byte_target, unit_target, names_of_regex, source_of};
 
 use crate::api::Regex;
 use regress_bounded::Bounded;
@@ -45,17 +45,37 @@ impl Regex {
         Bounded::new(self.alloc, &self.compiled, steps)
     }
 
-    /// Whether the pattern is known to be linear, by tables that were made when it was compiled. A search of such a pattern `within` as many
-    /// steps as `linear_steps` tells has enough of them, whatever the text is. A search without a bound goes no other way for it.
+    /// Works out whether the pattern is linear, and keeps the tables that tell: then as many steps as `linear_steps` tells are enough for a
+    /// search `within` them, whatever the text is. It answers `is_linear`. It takes about half the time that compiling took, and memory that
+    /// grows as the programs do; all else of the regex stays as it is.
     ///
     /// A pattern is linear that has no back reference and no atomic group; whose repetitions may go on without end or are of one iteration
     /// at most, with a least number of 0 or 1, or are of one character and have numbers up to 256; in which what is repeated
     /// can't be empty; and whose lookarounds hold no groups or are negated, with no lookahead inside a lookbehind. Its program has at most
     /// 65,536 instructions. What has to be repeated more often is written out where it is short, so `(?:ab){2,}` is linear too. Where
-    /// memory for the tables was refused a pattern isn't known to be linear.
+    /// memory for the tables is refused a pattern isn't known to be linear.
     ///
     /// ```rust
-    /// let linear = regex.is_linear(); // of `(a|ab)*c` true, of `(a)\1` false
+    /// let mut regex = Regex::with_flags(alloc, "(a|ab)*c", Flags::default(), &tables)?;
+    /// let linear = regex.learn_linear(); // true; of `(a)\1` false
+    /// ```
+    pub fn learn_linear(&mut self) -> bool
+        ensures linear { result ≡ is_linear self.new }
+        ensures learned { is_linear self.old ≡ true → result ≡ true }
+        ensures stands { (t : Table) → (o : Options) → (p : Pattern) → StandsFor self.old t o p → StandsFor self.new t o p }
+        ensures stands_in_units { (t : Table) → (o : Options) → (p : Pattern) → StandsInUnits self.old t o p → StandsInUnits self.new t o p }
+        ensures named { names_of_regex self.new ≡ names_of_regex self.old }
+        ensures programs { (byte_target self.new ≡ byte_target self.old) × (unit_target self.new ≡ unit_target self.old) }
+        ensures text { source_of self.new ≡ source_of self.old }
+    {
+        self.compiled.learn_linear(self.alloc);
+        self.is_linear()
+    }
+
+    /// Whether the pattern is known to be linear: `learn_linear` has found that it is.
+    ///
+    /// ```rust
+    /// let linear = regex.is_linear();
     /// ```
     pub fn is_linear(&self) -> bool
         ensures { result ≡ is_linear self.now }
@@ -64,7 +84,7 @@ impl Regex {
     }
 
     /// How many steps are enough for each search, and for each iteration, in a text of so many bytes or 16-bit units: `within` so many or
-    /// more none errs with `TooManySteps`. `None` where the pattern isn't known to be linear (`is_linear`), and where the table of such a text
+    /// more none errs with `TooManySteps`. `None` where the pattern isn't known to be linear (`learn_linear`), and where the table of such a text
     /// would take more than 64 MB, a bit for each instruction at each offset.
     ///
     /// ```rust

@@ -14,6 +14,7 @@ ghost use Rattle.regress.specs.Standing.{StandsFor, names_of_regex, source_of};
 ghost use Rattle.regress_calls.specs.declared.call_error.CallError.TheVariants.{NoRoom};
 ghost use Rattle.regress_calls.specs.Codes.{IfCount, IfError};
 ghost use Rattle.regress_calls.specs.Handles.{OfPattern, content};
+ghost use Rattle.regress_calls.specs.Learning.{HoldsSame};
 ghost use Rattle.regress_calls.specs.Names.{AreWritten, IsNumbered};
 ghost use Rattle.regress_calls.specs.Refusals.{MayRefuseCopyOf, MayRefuseCounted, MayRefuseName, MayRefusePattern};
 ghost use Rattle.regress_calls.specs.Stopping.{IsEnough};
@@ -37,18 +38,19 @@ pub extern "C" fn regress_raw_group_count(alloc: Global, pattern: &mut Slot) -> 
     count_code(group_count(alloc, pattern))
 }
 
-/// Whether a pattern is known to be linear: 1, or 0.
+/// Whether a pattern is linear: 1, or 0. What is learned the handle keeps.
 #[unsafe(no_mangle)]
 pub extern "C" fn regress_raw_is_linear(alloc: Global, pattern: &mut Slot) -> i32
-    ensures linear { (r : RegexValue) → content pattern.old.held ≡ OfPattern r → IfCount result (λ count. IsTruthOf count (IsTrue (is_linear r))) }
-    ensures kept { content pattern.new.held ≡ content pattern.old.held }
+    ensures linear { (r : RegexValue) → content pattern.new.held ≡ OfPattern r → IfCount result (λ count. IsTruthOf count (IsTrue (is_linear r))) }
+    ensures same { HoldsSame (content pattern.old.held) (content pattern.new.held) }
+    ensures untouched { IfError result (λ _. content pattern.new.held ≡ content pattern.old.held) }
     ensures refused { IfError result (MayRefusePattern (content pattern.old.held)) }
 {
     truth_code(is_linear(alloc, pattern))
 }
 
 /// Writes how many steps are enough for each search in a text of so many bytes or 16-bit units, or of fewer. `regress_calls::linear_steps`
-/// says what it writes.
+/// says what it writes, and what the handle keeps.
 #[unsafe(no_mangle)]
 pub extern "C" fn regress_raw_linear_steps(
     alloc: Global,
@@ -56,9 +58,9 @@ pub extern "C" fn regress_raw_linear_steps(
     units: usize,
     steps: &mut usize,
 ) -> i32
-    ensures enough { (r : RegexValue) → content pattern.old.held ≡ OfPattern r → IfCount result (λ _. IsEnough r units steps.new) }
-    ensures untouched { IfError result (λ _. steps.new ≡ steps.old) }
-    ensures kept { content pattern.new.held ≡ content pattern.old.held }
+    ensures enough { (r : RegexValue) → content pattern.new.held ≡ OfPattern r → IfCount result (λ _. IsEnough r units steps.new) }
+    ensures same { HoldsSame (content pattern.old.held) (content pattern.new.held) }
+    ensures untouched { IfError result (λ _. (steps.new ≡ steps.old) × (content pattern.new.held ≡ content pattern.old.held)) }
     ensures refused { IfError result (MayRefusePattern (content pattern.old.held)) }
 {
     done_code(linear_steps(alloc, pattern, units, steps))

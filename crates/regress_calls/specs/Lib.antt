@@ -5,6 +5,7 @@ pub mod Buffers
 pub mod Texts
 pub mod Names
 pub mod Handles
+pub mod Learning
 pub mod Stopping
 pub mod Refusals
 pub mod Compiling

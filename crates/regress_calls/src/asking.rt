@@ -13,6 +13,7 @@ ghost use Rattle.regress.specs.Linear.{is_linear};
 ghost use Rattle.regress.specs.Standing.{StandsFor, names_of_regex, source_of};
 ghost use Rattle.regress_calls.specs.Buffers.{IsCopied, IsCopiedIfMade};
 ghost use Rattle.regress_calls.specs.Handles.{OfPattern, content};
+ghost use Rattle.regress_calls.specs.Learning.{HoldsSame};
 ghost use Rattle.regress_calls.specs.Names.{IsNumbered, AreWritten};
 ghost use Rattle.regress_calls.specs.Refusals.{MayRefuseCopy, MayRefuseCopyOf, MayRefuseCounted, MayRefuseName, MayRefusePattern};
 ghost use Rattle.regress_calls.specs.Stopping.{IsEnough};
@@ -21,7 +22,7 @@ use crate::buffer::copy_text;
 use crate::call_error::{CallError, text_of_code};
 use crate::numbers::write_numbers;
 use crate::search::MAX_RANGES;
-use crate::sharing::pattern_in;
+use crate::sharing::{learned_in, pattern_in};
 use crate::slot::Slot;
 use regress::ReplacementSyntax;
 use std::alloc::Global;
@@ -42,31 +43,33 @@ pub fn group_count(alloc: Global, slot: &mut Slot) -> Result<usize, CallError>
     Ok(count)
 }
 
-/// Whether the pattern that a handle holds is known to be linear, as `Regex::is_linear` tells it.
+/// Whether the pattern that a handle holds is linear, as `Regex::learn_linear` tells it. What is learned the handle keeps; searches that are
+/// made of it from then on know it too.
 pub fn is_linear(alloc: Global, slot: &mut Slot) -> Result<bool, CallError>
-    ensures linear { (r : RegexValue) → content slot.old.held ≡ OfPattern r → IfOk result (λ known. known ≡ is_linear r) }
-    ensures kept { content slot.new.held ≡ content slot.old.held }
+    ensures linear { (r : RegexValue) → content slot.new.held ≡ OfPattern r → IfOk result (λ known. known ≡ is_linear r) }
+    ensures same { HoldsSame (content slot.old.held) (content slot.new.held) }
+    ensures untouched { OnErr result (content slot.new.held ≡ content slot.old.held) }
     ensures refused { IfErr result (MayRefusePattern (content slot.old.held)) }
 {
-    let regex = pattern_in(alloc, slot)?;
+    let regex = learned_in(alloc, slot)?;
     Ok(regex.is_linear())
 }
 
 /// Writes how many steps are enough for each search in a text of so many bytes or 16-bit units, or of fewer, as `Regex::linear_steps`
-/// tells it: a search with such a bound is never refused as `TooManySteps` there. Writes the greatest number, which stands for no
-/// bound, where the pattern isn't known to be linear, and where the text is too long.
+/// tells it: a search with such a bound, made from now on, is never refused as `TooManySteps` there. Writes the greatest number, which
+/// stands for no bound, where the pattern isn't known to be linear, and where the text is too long. It learns as `is_linear` does.
 pub fn linear_steps(
     alloc: Global,
     slot: &mut Slot,
     units: usize,
     steps: &mut usize,
 ) -> Result<(), CallError>
-    ensures enough { (r : RegexValue) → content slot.old.held ≡ OfPattern r → OnOk result (IsEnough r units steps.new) }
-    ensures untouched { OnErr result (steps.new ≡ steps.old) }
-    ensures kept { content slot.new.held ≡ content slot.old.held }
+    ensures enough { (r : RegexValue) → content slot.new.held ≡ OfPattern r → OnOk result (IsEnough r units steps.new) }
+    ensures same { HoldsSame (content slot.old.held) (content slot.new.held) }
+    ensures untouched { OnErr result ((steps.new ≡ steps.old) × (content slot.new.held ≡ content slot.old.held)) }
     ensures refused { IfErr result (MayRefusePattern (content slot.old.held)) }
 {
-    let regex = pattern_in(alloc, slot)?;
+    let regex = learned_in(alloc, slot)?;
     *steps = regex.linear_steps(units).unwrap_or(usize::MAX);
     Ok(())
 }

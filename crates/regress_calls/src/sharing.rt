@@ -1,8 +1,9 @@
 //! What handles hold, for one more owner.
-ghost use Rattle.std.specs.Prelude.{◌≡◌, IfOk, IfErr};
+ghost use Rattle.std.specs.Prelude.{◌≡◌, IfOk, IfErr, OnErr};
 ghost use Rattle.std.specs.Arc.{arc_value};
 ghost use Rattle.regress_front_tables.specs.TableViews.{parts};
 ghost use Rattle.regress_calls.specs.Handles.{OfPattern, OfTables, content};
+ghost use Rattle.regress_calls.specs.Learning.{HoldsSame};
 ghost use Rattle.regress_calls.specs.Refusals.{MayRefusePattern, MayRefuseTables};
 
 use crate::call_error::CallError;
@@ -45,6 +46,28 @@ pub(crate) fn pattern_in(alloc: Global, slot: &mut Slot) -> Result<Arc<Regex>, C
     let shared = pattern_of(&held);
     slot.put(alloc, held);
     shared
+}
+
+/// The pattern that a handle holds once it is worked out whether that is linear, for one more owner. If it is, the handle holds it with what
+/// was learned. Refused as `pattern_in` is, and as `OutOfMemory`.
+pub(crate) fn learned_in(alloc: Global, slot: &mut Slot) -> Result<Arc<Regex>, CallError>
+    ensures held { IfOk result (λ a. content slot.new.held ≡ OfPattern (arc_value a)) }
+    ensures same { HoldsSame (content slot.old.held) (content slot.new.held) }
+    ensures untouched { OnErr result (content slot.new.held ≡ content slot.old.held) }
+    ensures refused { IfErr result (MayRefusePattern (content slot.old.held)) }
+{
+    let regex = pattern_in(alloc, slot)?;
+    if regex.is_linear() {
+        return Ok(regex);
+    }
+    let mut learned = regex.try_clone()?;
+    if !learned.learn_linear() {
+        return Ok(regex);
+    }
+    let shared = Arc::new(alloc, learned)?;
+    let held = Box::new(alloc, Held::Pattern(Arc::try_clone(&shared)?))?;
+    slot.put(alloc, held);
+    Ok(shared)
 }
 
 /// The tables that a handle holds, for one more owner. Refused as `pattern_in` is.

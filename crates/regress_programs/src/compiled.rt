@@ -1,6 +1,6 @@
 //! The programs of a pattern.
 ghost use Rattle.std.specs.Arc.{arc_value};
-ghost use Rattle.std.specs.Prelude.{◌≡◌, ◌≤◌, ◌≢◌, ℕ, List, false, true, All, IfOk, IfErr, IsOkUnless, length, option_copied, option_map};
+ghost use Rattle.std.specs.Prelude.{◌≡◌, ◌≤◌, ◌≢◌, ℕ, List, None, false, true, All, IfOk, IfErr, IsOkUnless, is_some, length, option_copied, option_map};
 ghost use Rattle.regress_engine_code.specs.Standing.{IsCopyOf, program_of};
 ghost use Rattle.regress_meaning.specs.Table.{Table};
 ghost use Rattle.regress_meaning.specs.Pattern.{Pattern};
@@ -52,8 +52,8 @@ fn shared(table: &Option<Arc<LinearTable>>) -> Result<Option<Arc<LinearTable>>, 
     Ok(Some(Arc::try_clone(table)?))
 }
 
-/// The programs of a pattern: of bytes, and of units; and for each the table by which it is linear, where it is. Searches that may take so
-/// many steps then turn to tables.
+/// The programs of a pattern: of bytes, and of units; and for each the table by which it is linear, once that is learned. Searches that may
+/// take so many steps then turn to tables.
 #[derive(Debug, Drop)]
 pub struct Compiled {
     /// Of bytes, for texts of UTF-8 and ASCII.
@@ -99,36 +99,50 @@ impl Compiled {
         rewrite(alloc, &mut regex)?;
         let unit_program = emit_units(alloc, &regex)?;
         let byte_program = emit(alloc, &regex)?;
-        Ok(Compiled::of_programs(alloc, byte_program, unit_program))
+        Ok(Compiled::of_programs(byte_program, unit_program))
     }
 
-    /// Two programs, which may be those of two patterns. For each it makes the table by which it is linear, where it is; where memory for that
-    /// is refused, there is none.
+    /// Two programs, which may be those of two patterns. They are not known to be linear.
     ///
     /// Asks for one program of each kind.
     ///
     /// ```rust
     /// let byte_program = compiled.byte_program.try_clone(alloc)?;
     /// let unit_program = compiled.unit_program.try_clone(alloc)?;
-    /// let again = Compiled::of_programs(alloc, byte_program, unit_program);
+    /// let again = Compiled::of_programs(byte_program, unit_program);
     /// ```
-    pub fn of_programs(
-        alloc: Global,
-        byte_program: CompiledRegex,
-        unit_program: CompiledRegex,
-    ) -> Compiled
+    pub fn of_programs(byte_program: CompiledRegex, unit_program: CompiledRegex) -> Compiled
         requires of_bytes { byte_program.units ≡ false }
         requires of_units { unit_program.units ≡ true }
         ensures bytes { result.byte_program ≡ byte_program }
         ensures units { result.unit_program ≡ unit_program }
+        ensures unknown { (byte_table_of result ≡ None) × (unit_table_of result ≡ None) }
     {
-        let byte_table = linear_table(alloc, &byte_program);
-        let unit_table = linear_table(alloc, &unit_program);
         Compiled {
             byte_program,
             unit_program,
-            byte_table,
-            unit_table,
+            byte_table: None,
+            unit_table: None,
+        }
+    }
+
+    /// Makes for each program the table by which it is linear, where it is and there is none yet. Where memory for that is refused, there is
+    /// none.
+    ///
+    /// ```rust
+    /// compiled.learn_linear(alloc);
+    /// ```
+    pub fn learn_linear(&mut self, alloc: Global)
+        ensures bytes { self.new.byte_program ≡ self.old.byte_program }
+        ensures units { self.new.unit_program ≡ self.old.unit_program }
+        ensures kept_bytes { is_some (byte_table_of self.old) ≡ true → byte_table_of self.new ≡ byte_table_of self.old }
+        ensures kept_units { is_some (unit_table_of self.old) ≡ true → unit_table_of self.new ≡ unit_table_of self.old }
+    {
+        if self.byte_table.is_none() {
+            self.byte_table = linear_table(alloc, &self.byte_program);
+        }
+        if self.unit_table.is_none() {
+            self.unit_table = linear_table(alloc, &self.unit_program);
         }
     }
 
