@@ -41,9 +41,10 @@ impl Pool {
         Pool(Mutex::new(Kept { pattern, idle: Vec::new(), is_linear: None }))
     }
 
-    /// A pool of its own for the same pattern, which is not compiled again.
+    /// A pool of its own for the same pattern, which is not compiled again. What was asked of it is known there too.
     pub fn share(&self) -> Pool {
-        Pool::new(lock(&self.0).pattern.share())
+        let mut kept = lock(&self.0);
+        Pool(Mutex::new(Kept { pattern: kept.pattern.share(), idle: Vec::new(), is_linear: kept.is_linear }))
     }
 
     /// Whether the pattern is linear.
