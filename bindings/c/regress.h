@@ -398,7 +398,7 @@ static inline int32_t regress_pattern_text(regress_pattern *pattern, char *buffe
 /* Works out whether the pattern is linear: answers 1 where it is, and else 0. A search of such a pattern that is made from now on, and to
  * which regress_search_set_max_steps gives as many steps as regress_linear_steps tells, has enough of them, whatever the text is. A
  * search without a bound goes no other way for it, and neither does one that was made before. The pattern keeps what is learned, and
- * regress_share hands it on. What isn't linear is worked out anew at each call, in about the time that compiling takes.
+ * regress_share hands it on. What isn't linear is worked out anew at each call, in less time than compiling takes.
  *
  * A pattern is linear that has no back reference; whose repetitions have no greatest number, or 1, and a least number of 0 or 1, or are
  * of one character and have numbers up to 256; in which nothing that may be empty is repeated; and whose lookarounds hold no groups or are
