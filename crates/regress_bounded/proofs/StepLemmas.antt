@@ -1,6 +1,6 @@
 -- What a step of an executor with a budget gives, told as a call of an iterator over it.
 use Rattle.std.specs.Prelude.{OnSome, IfErr}
-use Rattle.std.proofs.Common.{◌≡◌, Bool, true, refl, ℕ, ◌<◌, List, [], ◌∷◌, Option, Some, None, Result, Ok, Err, IfSome, sym, ap, ◌∙◌, subst}
+use Rattle.std.proofs.Common.{◌≡◌, Bool, true, refl, ℕ, ◌<◌, List, ◌∷◌, Option, Some, None, Result, Ok, Err, IfSome, sym, ap, ◌∙◌, subst}
 use Rattle.regress_match.specs.declared.found.Match.{Match}
 use Rattle.regress_match.specs.Views.{item_of}
 use Rattle.regress_match.specs.Iterating.{coming_on, steps_on}

@@ -1,7 +1,7 @@
 -- What is counted over an iteration, call by call.
 use Rattle.std.specs.Iterator.{Yields}
 use Rattle.std.specs.Prelude.{IsErrOf, IfErr}
-use Rattle.std.proofs.Common.{◌≡◌, ◌⊎◌, Bool, true, false, ℕ, ◌+◌, ◌≤◌, List, [], ◌∷◌, map, Option, Some, None, Result, Ok, Err, inl, inr, refl, sym, ap, ◌∙◌, subst, arith}
+use Rattle.std.proofs.Common.{◌≡◌, ◌⊎◌, Bool, true, false, ℕ, ◌+◌, List, [], ◌∷◌, map, Option, Some, None, Result, Ok, Err, inl, inr, refl, sym, ap, ◌∙◌, subst, arith}
 use Rattle.regress_meaning.specs.Matches.{Item}
 use Rattle.regress_match.specs.declared.found.Match.{Match}
 use Rattle.regress_match.specs.Iterating.{coming_on}
@@ -18,7 +18,7 @@ use Rattle.regress_engine_exec.specs.declared.error.SearchError.{SearchError}
 use Rattle.regress_engine_exec.specs.declared.error.SearchError.TheVariants.{OutOfMemory, TooManySteps}
 use Rattle.regress_engine_exec.specs.Counting.{CountsSearch, CountsStep}
 use Rattle.regress_bounded.specs.Coming.{GivesWithin}
-use Rattle.regress_bounded.specs.Together.{TakeTogether, no_search, first_search, CountsTogether, CountsWithLast, TakeAllTogether, CountsAlong, TakesAllAlong}
+use Rattle.regress_bounded.specs.Together.{no_search, first_search, CountsTogether, CountsWithLast, TakeAllTogether, CountsAlong, TakesAllAlong}
 
 -- what was counted by some steps and by others was counted by both together
 spends-both : (v : View) (m n : ℕ) (a b c : Option ℕ) → Spends a b (most_counted v m) → Spends b c (most_counted v n) → Spends a c (most_counted v (m + n))

@@ -1,5 +1,5 @@
 -- How many steps the searches of an iteration take together, and how many of them are counted.
-use Rattle.std.specs.Prelude.{◌≡◌, ℕ, ◌+◌, Bool, List, [], ◌∷◌, Option, Some, None, Result, Ok, Err, map}
+use Rattle.std.specs.Prelude.{◌≡◌, ℕ, ◌+◌, Bool, List, [], ◌∷◌, Option, Some, None, Err, map}
 use Rattle.regress_meaning.specs.Matches.{Item}
 use Rattle.regress_match.specs.declared.found.Match.{Match}
 use Rattle.regress_match.specs.Iterating.{coming_on}
@@ -11,7 +11,6 @@ use Rattle.regress_engine_input.specs.Views.{View}
 use Rattle.regress_engine_search.specs.Budgets.{Spends}
 use Rattle.regress_engine_trying.specs.Counting.{most_counted}
 use Rattle.regress_engine_code.specs.declared.compiled.CompiledRegex.{CompiledRegex}
-use Rattle.regress_engine_exec.specs.declared.error.SearchError.{SearchError}
 use Rattle.regress_engine_exec.specs.declared.error.SearchError.TheVariants.{TooManySteps}
 use Rattle.regress_engine_exec.specs.Counting.{Takes}
 use Rattle.regress_bounded.specs.Coming.{GivesWithin}

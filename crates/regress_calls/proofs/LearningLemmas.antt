@@ -2,7 +2,7 @@
 use Rattle.std.specs.Prelude.{◌≡◌}
 use Rattle.std.proofs.Common.{◌∙◌, refl}
 use Rattle.regress.specs.declared.api.Regex.{Regex}
-use Rattle.regress_calls.specs.Handles.{Content, OfPattern}
+use Rattle.regress_calls.specs.Handles.{Content}
 use Rattle.regress_calls.specs.Learning.{HoldsSame, IsSamePattern}
 
 -- a pattern is the same as itself

@@ -4,5 +4,6 @@ pub mod ScanLemmas
 pub mod MarkLemmas
 pub mod NibbleLemmas
 pub mod PairMarks
+pub mod EndMarks
 pub mod WordMarks
 pub mod LandmarkLemmas

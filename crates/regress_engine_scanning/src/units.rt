@@ -1,12 +1,11 @@
 //! Searches among 16-bit units for bytes, each of which is the unit of the same number.
-ghost use Rattle.std.specs.Prelude.{◌≡◌, ◌↔◌, ◌<◌, ◌≤◌, ℕ, Bool, length, map, take, drop, IfSome, IsTrue};
+ghost use Rattle.std.specs.Prelude.{◌≡◌, ◌↔◌, ◌<◌, ◌≤◌, ℕ, Bool, true, length, map, take, drop, IfSome, IsTrue};
 ghost use Rattle.std.specs.Simd.Lanes.{mask_l};
 ghost use Rattle.memchr.specs.Find.{OccursAt};
 ghost use Rattle.regress_meaning.specs.Text.{holds};
 ghost use Rattle.regress_front_bytes.specs.Bitmaps.{byte_bitmap_contains};
 ghost use Rattle.regress_engine_scanning.specs.Least.{IsLeast};
-ghost use Rattle.regress_engine_scanning.specs.Units.{AreAscii};
-ghost use Rattle.regress_engine_scanning.specs.Units.{IsNextUnit};
+ghost use Rattle.regress_engine_scanning.specs.Units.{AreAscii, IsNextUnit, has_ends};
 
 use regress_front_bytes::ByteBitmap;
 use std::simd::prelude::*;
@@ -162,6 +161,50 @@ fn stand_at(bytes: &[u8], units: &[u16], index: usize) -> bool
     true
 }
 
+/// Whether a byte stands at an index, and another so far behind it.
+fn has_ends(first: u8, last: u8, apart: usize, units: &[u16], index: usize) -> bool
+    requires { index < length units.now }
+    ensures { result ≡ has_ends first last apart units.now index }
+{
+    units[index] == u16::from(first)
+        && apart < units.len() - index
+        && units[index + apart] == u16::from(last)
+}
+
+/// Where a byte first stands from an index on that has another so far behind it, by one index after another.
+fn first_ends(first: u8, last: u8, apart: usize, units: &[u16], from: usize) -> Option<usize>
+    requires { from ≤ length units.now }
+    ensures least { IsLeast (λ k. has_ends first last apart units.now k ≡ true) from result }
+    ensures inside { IfSome result (λ k. k < length units.now) }
+{
+    for index in from..units.len() {
+        if has_ends(first, last, apart, units, index) {
+            return Some(index);
+        }
+    }
+    None
+}
+
+/// The same by many units at once: a text has the first byte of a sequence at many places, and hardly ever the last as far behind it.
+#[inline(always)]
+fn find_ends(first: u8, last: u8, apart: usize, units: &[u16], from: usize) -> Option<usize>
+    requires { from ≤ length units.now }
+    ensures least { IsLeast (λ k. has_ends first last apart units.now k ≡ true) from result }
+    ensures inside { IfSome result (λ k. k < length units.now) }
+{
+    let mut at = from;
+    while units.len() - at >= LANES && units.len() - at - LANES >= apart {
+        let begun = [first].marks(u16x32::from_slice(&units[at..]));
+        let ended = [last].marks(u16x32::from_slice(&units[at + apart..]));
+        let marks = begun & ended;
+        if marks != 0 {
+            return Some(at + marks.trailing_zeros() as usize);
+        }
+        at += LANES;
+    }
+    first_ends(first, last, apart, units, at)
+}
+
 /// Where these bytes first stand from an index on. Asks that the index lies among the units.
 ///
 /// ```rust
@@ -171,11 +214,11 @@ pub fn find_sequence(bytes: &[u8], units: &[u16], from: usize) -> Option<usize>
     requires { from ≤ length units.now }
     ensures { IsLeast (λ k. take (length bytes.now) (drop k units.now) ≡ bytes.now) from result }
 {
-    let Some(first) = bytes.first() else {
+    let (Some(first), Some(last)) = (bytes.first(), bytes.last()) else {
         return Some(from);
     };
     let mut at = from;
-    while let Some(index) = find_member(&[*first], units, at) {
+    while let Some(index) = find_ends(*first, *last, bytes.len() - 1, units, at) {
         if stand_at(bytes, units, index) {
             return Some(index);
         }

@@ -1,6 +1,5 @@
 use Rattle.std.specs.Str.{chars}
-use Rattle.std.proofs.Common.{◌≡◌, List, take, map, length}
-use Rattle.regress_meaning.specs.Matches.{Item}
+use Rattle.std.proofs.Common.{take, map, length}
 use Rattle.regress_meaning.specs.Offsets.{of_utf8, told}
 use Rattle.regress_meaning.specs.Pattern.{names_of}
 use Rattle.regress_replacing.specs.Syntax.{replacement_text}

@@ -1,9 +1,8 @@
-use Rattle.std.proofs.Common.{◌≡◌, ap, refl, sym, ◌∙◌, subst, not, Some, length}
+use Rattle.std.proofs.Common.{ap, refl, sym, ◌∙◌, subst, not, Some, length}
 use Rattle.regress_meaning.specs.Flags.{is_unicode}
 use Rattle.regress_front.specs.TableViews.{table}
 use Rattle.regress_front_core.specs.FlagWords.{options}
 use Rattle.regress_match.specs.Views.{item_of}
-use Rattle.regress_engine_code.specs.declared.compiled.CompiledRegex.{CompiledRegex}
 use Rattle.regress_engine_input.specs.Views.{View, reading_of, utf8}
 use Rattle.regress_engine_search.specs.Search.{IsItemAtPlaces}
 use Rattle.regress_engine_search.proofs.ProducerLemmas.{match-in_bytes}

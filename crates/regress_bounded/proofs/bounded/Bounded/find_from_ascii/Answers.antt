@@ -1,11 +1,10 @@
-use Rattle.std.proofs.Common.{ℕ, List, chars, map, ◌≡◌, ap, refl, sym, ◌∙◌, subst, not, Some, length}
+use Rattle.std.proofs.Common.{ℕ, List, chars, map, ap, refl, sym, ◌∙◌, subst, not, Some, length}
 use Rattle.regress_meaning.specs.Flags.{is_unicode}
 use Rattle.regress_meaning.specs.Matches.{Item, match_list}
 use Rattle.regress_meaning.specs.Offsets.{Begins, of_ascii, of_utf8, told}
 use Rattle.regress_front.specs.TableViews.{table}
 use Rattle.regress_front_core.specs.FlagWords.{options}
 use Rattle.regress_match.specs.Views.{item_of}
-use Rattle.regress_engine_code.specs.declared.compiled.CompiledRegex.{CompiledRegex}
 use Rattle.regress_engine_input.specs.Views.{View, reading_of, ascii}
 use Rattle.regress_engine_search.specs.Search.{IsItemAtPlaces}
 use Rattle.regress_engine_search.proofs.ByteTexts.{begins-alike, bytes-alike, told-alike}

@@ -1,11 +1,10 @@
-use Rattle.std.proofs.Common.{◌<◌, All, length, arith, ◌≡◌, ap, refl, sym, ◌∙◌, subst, not, Some}
+use Rattle.std.proofs.Common.{◌<◌, All, length, arith, ap, sym, ◌∙◌, subst, not, Some}
 use Rattle.std.proofs.lemmas.List.{get_or_default}
 use Rattle.regress_meaning.specs.Flags.{is_unicode}
 use Rattle.regress_meaning.specs.Offsets.{of_utf16}
 use Rattle.regress_front.specs.TableViews.{table}
 use Rattle.regress_front_core.specs.FlagWords.{options}
 use Rattle.regress_match.specs.Views.{item_of}
-use Rattle.regress_engine_code.specs.declared.compiled.CompiledRegex.{CompiledRegex}
 use Rattle.regress_engine_input.specs.Views.{View, reading_of, utf16}
 use Rattle.regress_engine_search.specs.Search.{IsItemAtPlaces}
 use Rattle.regress_programs.proofs.ListedLemmas.{coming-searched, tree-searchable}

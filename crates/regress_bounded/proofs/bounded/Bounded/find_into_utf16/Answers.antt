@@ -1,4 +1,4 @@
-use Rattle.std.proofs.Common.{length, refl, ap, ◌∙◌, sym, subst, ◌<◌, All, arith}
+use Rattle.std.proofs.Common.{length, ap, ◌∙◌, ◌<◌, All, arith}
 use Rattle.std.proofs.lemmas.Result.{IfOk-weaker}
 use Rattle.regress_meaning.specs.Flags.{is_unicode}
 use Rattle.regress_meaning.specs.Pattern.{names_of}

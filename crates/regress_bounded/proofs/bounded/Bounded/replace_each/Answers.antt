@@ -1,5 +1,5 @@
 use Rattle.std.specs.Str.{chars}
-use Rattle.std.proofs.Common.{◌≡◌, List, take, map, length, ◌∙◌, refl, ap}
+use Rattle.std.proofs.Common.{List, map, length, ap}
 use Rattle.regress_meaning.specs.Matches.{Item}
 use Rattle.regress_meaning.specs.Offsets.{of_utf8, told}
 use Rattle.regress_meaning.specs.Pattern.{names_of}

@@ -1,7 +1,6 @@
 use Rattle.std.specs.Fn.{FnOnceReturnsAt}
 use Rattle.std.specs.Str.{chars}
-use Rattle.std.proofs.Common.{◌≡◌, ◌⊎◌, List, take, map, length, inl, inr, refl, ap}
-use Rattle.regress_meaning.specs.Matches.{Item}
+use Rattle.std.proofs.Common.{take, map, length, ap}
 use Rattle.regress_meaning.specs.Offsets.{of_utf8, told}
 use Rattle.regress_meaning.specs.Pattern.{names_of}
 use Rattle.regress_matched.proofs.ReplacingLemmas.{answered-as, refused-as}

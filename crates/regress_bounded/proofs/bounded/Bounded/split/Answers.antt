@@ -1,5 +1,5 @@
 use Rattle.std.specs.Str.{chars}
-use Rattle.std.proofs.Common.{map, length, subst, ap, ◌∙◌}
+use Rattle.std.proofs.Common.{map, length, subst}
 use Rattle.regress_meaning.specs.Offsets.{of_utf8, told}
 use Rattle.regress_meaning.specs.Pattern.{names_of}
 use Rattle.regress_matched.specs.Giving.{Errs}

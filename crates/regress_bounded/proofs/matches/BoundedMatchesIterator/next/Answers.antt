@@ -1,9 +1,7 @@
-use Rattle.std.proofs.Common.{◌≡◌, ◌<◌, Option, Some, None, IfSome, Result, sym, subst}
-use Rattle.std.specs.Prelude.{OnSome, IfNone}
-use Rattle.regress_match.specs.declared.found.Match.{Match}
-use Rattle.regress_match.specs.Iterating.{steps_on}
+use Rattle.std.proofs.Common.{Option, Some, None, IfSome, sym, subst}
+use Rattle.std.specs.Prelude.{IfNone}
 use Rattle.regress_engine_exec.specs.Searches.{search_in}
-use Rattle.regress_engine_search.specs.Search.{Search, IsPosition, places_behind}
+use Rattle.regress_engine_search.specs.Search.{Search, IsPosition}
 use Rattle.regress_bounded.specs.Coming.{search_by, turns_of}
 use Rattle.regress_bounded.proofs.StepLemmas.{step-given, step-ends, step-nearer, step-never}
 use Rattle.regress_bounded.proofs.matches.BoundedMatchesIterator.next.Goals as goal
