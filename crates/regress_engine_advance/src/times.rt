@@ -25,6 +25,7 @@ use regress_front_core::GroupData;
 /// ```rust
 /// let behind = after_times(&program, &input, &Insn::MatchAny, 2, true, &groups, 0);
 /// ```
+#[inline(always)]
 pub fn after_times<Input: CharInput>(
     program: &CompiledRegex,
     input: &Input,
@@ -61,6 +62,7 @@ pub fn after_times<Input: CharInput>(
 /// ```rust
 /// let behind = as_far(&program, &input, &Insn::MatchAny, usize::MAX, true, &groups, 0);
 /// ```
+#[inline(always)]
 pub fn as_far<Input: CharInput>(
     program: &CompiledRegex,
     input: &Input,

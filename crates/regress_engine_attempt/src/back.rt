@@ -317,6 +317,7 @@ impl<'a, Input: ExecutorInput> Attempt<'a, Input> {
     }
 
     /// Undoes a record, and answers whether there is a state to be tried.
+    #[inline(always)]
     fn undo(
         &self,
         undo: Undo,
@@ -393,6 +394,7 @@ impl<'a, Input: ExecutorInput> Attempt<'a, Input> {
     }
 
     /// Undoes records until there is a state to be tried, and answers whether there is one. What they show to fail is remembered.
+    #[inline(always)]
     pub(crate) fn back(
         &self,
         memory: &mut Memory,

@@ -76,7 +76,7 @@ fn begin_atomic(
 
 impl<'a, Input: ExecutorInput> Attempt<'a, Input> {
     /// Does an instruction that changes nothing but the offset, and answers whether it leads anywhere.
-    #[inline]
+    #[inline(always)]
     fn take(&self, insn: &Insn, memory: &Memory, spot: &mut Spot) -> bool
         requires suits { Suits (program_of self.now.program.now) (Input.view self.now.input) }
         requires sound { IsHeldIn (world Input.view self.now) (held memory.now) }
@@ -134,6 +134,7 @@ impl<'a, Input: ExecutorInput> Attempt<'a, Input> {
     }
 
     /// Does the instruction at a spot. It answers whether it continues, or `None` where that is the end of the run.
+    #[inline(always)]
     pub(crate) fn step(
         &self,
         memory: &mut Memory,

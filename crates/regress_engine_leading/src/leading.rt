@@ -68,6 +68,7 @@ fn passed_taken<Input: CharInput>(
 
 /// How far no run has an answer, where the program has a class at an address and then a loop of a class: up to where that
 /// stops, where no match can be reached from any of its ends; where it has no such loop, what `passed_taken` tells.
+#[inline(always)]
 fn passed_from<Input: CharInput>(
     program: &CompiledRegex,
     input: &Input,
@@ -128,6 +129,7 @@ fn passed_one<Input: CharInput>(
 
 /// What is known of the start where the program asks first whether a word begins or ends: where one does, the run is behind
 /// that at once, and else no run has an answer up to where the next one does.
+#[inline(always)]
 fn at_word<Input: CharInput>(
     program: &CompiledRegex,
     input: &Input,
@@ -158,6 +160,7 @@ fn at_word<Input: CharInput>(
 
 /// How far from the start on no line begins, where the program asks for that first; `None` where one begins there, and
 /// something may be led to.
+#[inline(always)]
 fn passed_line<Input: CharInput>(
     program: &CompiledRegex,
     input: &Input,
@@ -307,6 +310,7 @@ fn passed_leads<Input: CharInput>(
 /// ```rust
 /// let known = known_at(&program, &input, 0);
 /// ```
+#[inline(always)]
 pub fn known_at<Input: CharInput>(program: &CompiledRegex, input: &Input, start: usize) -> Beginning
     requires suits { Suits (program_of program.now) (Input.view input.now) }
     requires place { IsAtPlace (reading_of (Input.view input.now)) start }

@@ -26,6 +26,7 @@ impl<'r> Prefilter<'r> {
     /// ```rust
     /// let prefilter = Prefilter::new(program.start_pred());
     /// ```
+    #[inline(always)]
     pub fn new(start: &'r StartPredicate) -> Prefilter<'r>
         ensures { result.start ≡ start.entry }
     {

@@ -53,6 +53,7 @@ fn as_far_beside<Input: InputIndexer, Matcher: ByteMatcher<Input>>(
 /// ```rust
 /// let behind = as_far_ahead(&program, &input, &Insn::MatchAny, usize::MAX, 0);
 /// ```
+#[inline(always)]
 pub fn as_far_ahead<Input: CharInput>(
     program: &CompiledRegex,
     input: &Input,

@@ -82,6 +82,7 @@ impl Memory {
     /// ```rust
     /// let left = memory.leave(&mut answer, &mut spot)?;
     /// ```
+    #[inline(always)]
     pub fn leave(
         &mut self,
         answer: &mut Vec<GroupData<usize>>,

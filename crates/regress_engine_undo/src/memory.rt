@@ -54,7 +54,7 @@ impl Memory {
     /// ```rust
     /// memory.push(Undo::Resume { at: 3, offset: 0 })?;
     /// ```
-    #[inline]
+    #[inline(always)]
     pub fn push(&mut self, undo: Undo) -> Result<(), AllocError>
         ensures { OnOk result (held self.new ≡ pushed (undo_of undo) (held self.old)) }
     {

@@ -207,7 +207,7 @@ impl Memory {
     }
 
     /// Goes on with a repetition; `dead` tells that no match can be reached from behind it.
-    #[inline]
+    #[inline(always)]
     fn go_on(
         &mut self,
         repetition: &LoopFields,
@@ -233,7 +233,7 @@ impl Memory {
     /// ```rust
     /// let going = memory.enter(&repetition, 0, false, &mut spot)?;
     /// ```
-    #[inline]
+    #[inline(always)]
     pub fn enter(
         &mut self,
         repetition: &LoopFields,
