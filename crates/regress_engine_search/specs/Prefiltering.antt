@@ -1,5 +1,5 @@
 -- Where a text goes on as a start predicate says.
-use Rattle.std.specs.Prelude.{ℕ, Bool, true, false, List, [], Option}
+use Rattle.std.specs.Prelude.{ℕ, Bool, true, false, List, Option, None, Some}
 use Rattle.regress_engine_scanning.specs.Least.{IsLeast}
 use Rattle.regress_engine_prefix.specs.Starts.{BeginsAs}
 use Rattle.regress_engine_prefix.specs.declared.start.StartPredicate.{StartPredicate}
@@ -21,7 +21,7 @@ is_near (ByteNear _ _) = true
 is_near (variant.WordStart _) = true
 is_near _ = false
 
--- the bytes that are looked for as a sequence
-abbrev pub literal_of : StartPredicate → List ℕ
-literal_of (ByteSeq bytes) = bytes.items
-literal_of _ = []
+-- the bytes that are looked for as a sequence, if any are
+abbrev pub literal_of : StartPredicate → Option (List ℕ)
+literal_of (ByteSeq bytes) = Some bytes.items
+literal_of _ = None

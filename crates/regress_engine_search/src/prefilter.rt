@@ -16,7 +16,7 @@ use regress_front_bytes::ByteSearcher;
 pub struct Prefilter<'r> {
     /// What is looked for.
     pub start: &'r StartPredicate,
-    literal: Finder<'r>,
+    literal: Option<Finder<'r>>,
     ghost prepared: { literal ≡ literal_of start.now },
 }
 
@@ -30,14 +30,11 @@ impl<'r> Prefilter<'r> {
     pub fn new(start: &'r StartPredicate) -> Prefilter<'r>
         ensures { result.start ≡ start.entry }
     {
-        let literal: &'r [u8] = match start {
-            StartPredicate::ByteSeq(bytes) => bytes.as_slice(),
-            _ => &[],
+        let literal = match start {
+            StartPredicate::ByteSeq(bytes) => Some(Finder::new(bytes.as_slice())),
+            _ => None,
         };
-        Prefilter {
-            start,
-            literal: Finder::new(literal),
-        }
+        Prefilter { start, literal }
     }
 
     /// Whether it is the start of the text alone.
@@ -57,7 +54,10 @@ impl<'r> Prefilter<'r> {
             StartPredicate::ByteSet1(set) => find_one(*set, bytes),
             StartPredicate::ByteSet2(set) => find_two(*set, bytes),
             StartPredicate::ByteSet3(set) => find_three(*set, bytes),
-            StartPredicate::ByteSeq(_) => self.literal.find(bytes),
+            StartPredicate::ByteSeq(_) => match &self.literal {
+                Some(literal) => literal.find(bytes),
+                None => unreachable!(),
+            },
             StartPredicate::ByteBracket(set) => set.find_in(bytes),
             StartPredicate::ByteNear(set, landmark) => find_near(set, *landmark, bytes, 0),
             StartPredicate::BytePair(pair) => pair.find(bytes, 0),

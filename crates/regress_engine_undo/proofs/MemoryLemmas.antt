@@ -1,6 +1,6 @@
 -- What is read and written of a memory.
 use Rattle.std.specs.Prelude.{Result, Ok, Err, IfOk, OnOk}
-use Rattle.std.proofs.Common.{◌≡◌, ◌==◌, ℕ, zero, suc, ◌-◌, ◌<◌, true, false, length, reverse, sym, List, [], ◌∷◌, ◌++◌, map, take, replicate, refl, ap, ap₂, ◌∙◌, arith}
+use Rattle.std.proofs.Common.{◌≡◌, ◌==◌, ℕ, zero, suc, ◌<◌, true, false, length, reverse, sym, List, [], ◌∷◌, map, replicate, refl, ap, ◌∙◌, arith}
 use Rattle.std.proofs.lemmas.Bool.Decides.{nat_tests}
 use Rattle.std.proofs.lemmas.List.{length-map, length-reverse}
 use Rattle.regress_engine_runs.specs.UndoStack.{Undo}
@@ -10,17 +10,9 @@ pub map-replicate : {A B : Type 0} (f : A → B) (n : ℕ) (v : A) → map f (re
 map-replicate f zero v = refl
 map-replicate f (suc n) v = ap (λ xs. f v ∷ xs) (map-replicate f n v)
 
-take-none : {A : Type 0} (n : ℕ) (xs : List A) → xs ≡ [] → take n xs ≡ []
-take-none zero xs e = refl
-take-none (suc n) [] e = refl
-take-none (suc n) (x ∷ xs) e = absurd (cc e)
-
--- a list that was cleared and filled
-pub filled : {A B : Type 0} (f : A → B) (new old : List A) (n l : ℕ) (v : A) (w : B) → new ≡ take n old ++ replicate (n - l) v → old ≡ [] → l ≡ 0 → f v ≡ w
-    → map f new ≡ replicate n w
-filled f new old n l v w is none empty same =
-    let count : n - l ≡ n = omega (arith, empty) in
-    ap (map f) (is ∙ ap₂ (λ xs m. xs ++ replicate m v) (take-none n old none) count) ∙ map-replicate f n v ∙ ap (replicate n) same
+-- a list of one value so many times
+pub filled : {A B : Type 0} (f : A → B) (items : List A) (n : ℕ) (v : A) (w : B) → items ≡ replicate n v → f v ≡ w → map f items ≡ replicate n w
+filled f items n v w is same = ap (map f) is ∙ map-replicate f n v ∙ ap (replicate n) same
 
 -- what is handed on
 pub ok-then : {T E : Type 0} (r : Result T E) (P Q : T → Type 0) → ((x : T) → P x → Q x) → IfOk r P → IfOk r Q

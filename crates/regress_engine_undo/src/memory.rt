@@ -17,6 +17,22 @@ pub struct Memory {
     pub groups: Vec<GroupData<usize>>,
 }
 
+/// Makes a list one of so many values, all the same. It errs where memory is refused.
+#[inline(always)]
+fn renew<T: Copy>(list: &mut Vec<T>, count: usize, value: T) -> Result<(), AllocError>
+    ensures { OnOk result (list.new.items ≡ replicate count value) }
+{
+    list.clear();
+    if list.capacity() < count {
+        return list.resize(count, value);
+    }
+    // Few values stand there sooner one by one.
+    while list.len() < count {
+        list.push(value)?;
+    }
+    Ok(())
+}
+
 impl Memory {
     /// It holds nothing yet.
     ///
@@ -42,10 +58,8 @@ impl Memory {
         ensures { OnOk result (held self.new ≡ record { stack = []; loops = replicate loops (0, 0); groups = replicate groups unset }) }
     {
         self.stack.clear();
-        self.loops.clear();
-        self.loops.resize(loops, LoopData::new(0))?;
-        self.groups.clear();
-        self.groups.resize(groups, GroupData::new())?;
+        renew(&mut self.loops, loops, LoopData::new(0))?;
+        renew(&mut self.groups, groups, GroupData::new())?;
         Ok(())
     }
 

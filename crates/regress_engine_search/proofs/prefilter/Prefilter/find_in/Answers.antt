@@ -1,3 +1,4 @@
+use Rattle.std.specs.Prelude.{◌≡◌, Some}
 use Rattle.std.proofs.Common.{subst, sym, ap, ◌∙◌}
 use Rattle.memchr.specs.Find.{FindsNeedle}
 use Rattle.regress_front_bytes.specs.Bitmaps.{byte_bitmap_contains}
@@ -5,10 +6,11 @@ use Rattle.regress_engine_search.specs.Prefiltering.{IsNextHit, literal_of}
 use Rattle.regress_engine_scanning.proofs.ByteLemmas.{needle-least, position-least}
 use Rattle.regress_engine_search.proofs.prefilter.Prefilter.find_in.Goals as goal
 
-pub returns-in-ByteSeq-clause-first : goal.returns-in-ByteSeq-clause-first
-returns-in-ByteSeq-clause-first c =
+pub returns-in-Some-clause-first : goal.returns-in-Some-clause-first
+returns-in-Some-clause-first c =
     let bytes = c.args.bytes.now in
-    let found = subst (λ needle. FindsNeedle bytes needle 0 c.find.result) (c.args.self.now.prepared ∙ ap literal_of c.in-ByteSeq.is) c.find.ensures in
+    let same : Some c.in-Some.literal ≡ Some c.in-ByteSeq.field-0.items = sym c.in-Some.is ∙ c.args.self.now.prepared ∙ ap literal_of c.in-ByteSeq.is in
+    let found = subst (λ needle. FindsNeedle bytes needle 0 c.find.result) (cc same) c.find.ensures in
     subst (λ p. IsNextHit p bytes 0 c.find.result) (sym c.in-ByteSeq.is) (needle-least bytes c.in-ByteSeq.field-0.items c.find.result found)
 
 pub returns-in-ByteBracket-clause-first : goal.returns-in-ByteBracket-clause-first
