@@ -21,9 +21,9 @@ fn what_is_asked_of_a_regex(rt: HostRuntime) -> Result<(), Fail> {
     Ok(())
 }
 
-/// Whether these are the bytes that each match begins with.
-fn begins_with(regex: &Regex, front: &[u8]) -> bool {
-    match regex.literal_prefix() {
+/// Whether these are the bytes that are told.
+fn tells(told: Option<&[u8]>, front: &[u8]) -> bool {
+    match told {
         Some(bytes) => bytes == front,
         None => false,
     }
@@ -34,7 +34,18 @@ fn a_literal_in_front_is_told(rt: HostRuntime) -> Result<(), Fail> {
     let tables = Tables::small(rt.alloc())?;
     let literal = compiled(rt.alloc(), "harbour (\\w+)", "", &tables)?;
     let choice = compiled(rt.alloc(), "ab|cd", "", &tables)?;
-    assert!(rt; begins_with(&literal, b"harbour ") && choice.literal_prefix().is_none());
+    assert!(rt; tells(literal.literal_prefix(), b"harbour ") && choice.literal_prefix().is_none());
+    assert!(rt; tells(literal.required_literal(), b"harbour ") && choice.required_literal().is_none());
+    Ok(())
+}
+
+#[test]
+fn a_byte_that_each_match_needs_is_told(rt: HostRuntime) -> Result<(), Fail> {
+    let tables = Tables::small(rt.alloc())?;
+    let date = compiled(rt.alloc(), "\\d{4}-(\\d\\d)", "", &tables)?;
+    let address = compiled(rt.alloc(), "[a-z]+@[a-z]+", "", &tables)?;
+    assert!(rt; tells(date.required_literal(), b"-") && date.literal_prefix().is_none());
+    assert!(rt; tells(address.required_literal(), b"@"));
     Ok(())
 }
 

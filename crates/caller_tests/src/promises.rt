@@ -251,6 +251,16 @@ fn front_of<'r>(regex: &'r Regex) -> Option<&'r [u8]>
     regex.literal_prefix()
 }
 
+/// Bytes without which a text has no match.
+fn needed_of<'r>(regex: &'r Regex) -> Option<&'r [u8]>
+    ensures of_pattern { (t : Table) → (o : Options) → (p : Pattern) → StandsFor regex.now t o p → (text : List ℕ) → IsUtf8 text → (place : ℕ) →
+        IfSome result (λ bytes. IsNowhereIn bytes.now text → match_list t o p (chars text) place ≡ []) }
+    ensures of_tree { (n : ℕ) → (t : Tree) → HasTree regex.now n t → (text : List ℕ) → IsUtf8 text → (place : ℕ) →
+        IfSome result (λ bytes. IsNowhereIn bytes.now text → tree_list regex.now n t (chars text) place ≡ []) }
+{
+    regex.required_literal()
+}
+
 /// The text of a compiled pattern.
 fn text_of<'r>(regex: &'r Regex) -> &'r str
     ensures { result.now ≡ source_of regex.now }

@@ -335,7 +335,7 @@ impl<'r, 's, 'a, 't, R: Runtime + AllocGlobal, W: Write + Drop> Search<'r, 's, '
         Ok(())
     }
 
-    /// How many bytes a file has, where it is text and no line of it is selected, since each match begins with bytes that it lacks.
+    /// How many bytes a file has, where it is text and no line of it is selected, since it lacks bytes that each match needs.
     fn length_without_match(&mut self, path: &str) -> Option<usize> {
         let Options { ending, invert, .. } = self.options;
         if self.settings.multiline || invert || ending != Ending::Newline {
@@ -350,7 +350,7 @@ impl<'r, 's, 'a, 't, R: Runtime + AllocGlobal, W: Write + Drop> Search<'r, 's, '
         self.skimmer.length_without(&mut file, bytes)
     }
 
-    /// Searches a file. One without what each match begins with is read part by part, and searched as an empty one is.
+    /// Searches a file. One without bytes that each match needs is read part by part, and searched as an empty one is.
     fn search_file(&mut self, path: &str) -> Result<(), Stop> {
         if let Some(length) = self.length_without_match(path) {
             return self.search_content(path, length, Content::Text(""));

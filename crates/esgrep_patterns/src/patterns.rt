@@ -100,7 +100,7 @@ impl Finder for Patterns {
 
     fn literal(&self) -> Option<&[u8]> {
         match self.regexes.as_slice() {
-            [regex] => regex.literal_prefix(),
+            [regex] => regex.required_literal(),
             _ => None,
         }
     }

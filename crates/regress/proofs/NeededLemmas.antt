@@ -1,5 +1,5 @@
 -- A text in which the literal of a program's start predicate stands nowhere has no match.
-use Rattle.std.proofs.Common.{◌≡◌, Vec, Global, ℕ, zero, suc, ◌+◌, ◌-◌, ◌≤◌, ◌<◌, ◌⊎◌, inl, inr, false, not, List, [], ◌∷◌, length, map, chars, None, refl, sym, ap, ◌∙◌, subst, arith}
+use Rattle.std.proofs.Common.{◌≡◌, Vec, Global, ℕ, zero, suc, ◌+◌, ◌-◌, ◌≤◌, ◌<◌, ◌⊎◌, inl, inr, true, false, not, List, [], ◌∷◌, length, map, take, drop, chars, slice_get, None, Some, refl, sym, ap, ◌∙◌, subst, arith}
 use Rattle.std.proofs.Math.Logic.{∥∥₁_elim}
 use Rattle.std.proofs.lemmas.Bool.{cases_lt}
 use Rattle.std.specs.Prelude.{replicate}
@@ -20,11 +20,18 @@ use Rattle.regress_engine_code.specs.Laid.{IsLaid}
 use Rattle.regress_engine_code.specs.Standing.{target_of}
 use Rattle.regress_engine_prefix.specs.Starts.{BeginsAs}
 use Rattle.regress_engine_prefix.specs.declared.start.StartPredicate.{StartPredicate}
-use Rattle.regress_engine_prefix.specs.declared.start.StartPredicate.TheVariants.{ByteSeq}
+use Rattle.regress_engine_prefix.specs.declared.start.StartPredicate.TheVariants.{ByteNear, ByteSeq}
+use Rattle.regress_front_bytes.specs.declared.bitmaps.ByteBitmap.{ByteBitmap}
+use Rattle.regress_front_bytes.specs.Bitmaps.{byte_bitmap_contains}
+use Rattle.regress_engine_scanning.specs.Landmarks.{stands}
+use Rattle.regress_engine_scanning.specs.declared.landmark.Landmark.{Landmark}
+use Rattle.regress_engine_scanning.specs.declared.landmark.Landmark.TheVariants.{Ahead, BehindRun}
+use Rattle.regress_engine_scanning.proofs.ByteLemmas.{slice_get-behind}
+use Rattle.regress_engine_scanning.proofs.LandmarkLemmas.{begins-parts, byte-is, run-reaches}
 use Rattle.regress_engine_search.specs.Search.{Search, IsMadeOf}
 use Rattle.regress_engine_search.proofs.ProducerLemmas.{items-of_tree}
 use Rattle.regress_engine_search.proofs.SearchLemmas.{layout-searchable}
-use Rattle.regress.specs.Literals.{IsNowhereIn}
+use Rattle.regress.specs.Literals.{IsNowhereIn, byte_by}
 use Rattle.regress.specs.Programs.{IsLaidOutFrom, items_of_tree}
 
 module _ (context : Context) (n : ℕ) (t : Tree) (none : (s : State) → node_outcomes context t Forward s ≡ []) where
@@ -58,6 +65,27 @@ list-past context n t q past =
 pub never-begins : (start : StartPredicate) (bytes : Vec ℕ Global) → start ≡ ByteSeq bytes → (text : List ℕ) → IsNowhereIn bytes.items text
     → (at : ℕ) → BeginsAs start text at → ⊥
 never-begins start bytes e text nowhere at begins = nowhere at (subst (λ p. BeginsAs p text at) e begins)
+
+-- a byte that stands nowhere by itself stands nowhere
+nowhere-byte : (byte : ℕ) (text : List ℕ) → IsNowhereIn (byte ∷ []) text → (k : ℕ) → slice_get text k ≡ Some byte → ⊥
+nowhere-byte byte text nowhere k is = nowhere k (one text k is)
+  where
+    one : (xs : List ℕ) (k : ℕ) → slice_get xs k ≡ Some byte → take 1 (drop k xs) ≡ byte ∷ []
+    one [] zero e = absurd (cc e)
+    one [] (suc k) e = absurd (cc e)
+    one (x ∷ xs) zero e = let same : x ≡ byte = cc e in ap (λ b. b ∷ []) same
+    one (x ∷ xs) (suc k) e = one xs k e
+
+-- where the byte of a landmark stands nowhere, the text nowhere begins as the predicate says
+pub never-near : (start : StartPredicate) (set : ByteBitmap) (landmark : Landmark) → start ≡ ByteNear set landmark → (text : List ℕ) → IsNowhereIn (byte_by landmark ∷ []) text
+    → (at : ℕ) → BeginsAs start text at → ⊥
+never-near start set landmark e text nowhere at begins = by_kind landmark nowhere (begins-parts set landmark text at (subst (λ p. BeginsAs p text at) e begins)).1
+  where
+    by_kind : (l : Landmark) → IsNowhereIn (byte_by l ∷ []) text → stands l text at ≡ true → ⊥
+    by_kind (Ahead distance byte) nowhere is = nowhere-byte byte text nowhere (at + distance) (byte-is _ byte is)
+    by_kind (BehindRun run byte) nowhere is =
+        let (n, some, all, end) = run-reaches (byte_bitmap_contains run) byte (drop at text) is in
+        nowhere-byte byte text nowhere (at + n) (sym (slice_get-behind text at n) ∙ end)
 
 module _ (compiled : CompiledRegex) (of_bytes : compiled.units ≡ false) (text : List ℕ) (is_utf8 : IsUtf8 text)
     (never : (at : ℕ) → BeginsAs compiled.start_pred text at → ⊥) where

@@ -7,15 +7,26 @@ ghost use Rattle.regress_meaning.specs.Flags.{Options};
 ghost use Rattle.regress_meaning.specs.Matches.{match_list};
 ghost use Rattle.regress_meaning.specs.Offsets.{of_utf8, Begins};
 ghost use Rattle.regress_front.specs.Trees.{Tree};
-ghost use Rattle.regress.specs.Literals.{IsNowhereIn};
+ghost use Rattle.regress.specs.Literals.{IsNowhereIn, byte_by};
 ghost use Rattle.regress_programs.specs.Tables.{byte_table_of, unit_table_of};
 ghost use Rattle.regress.specs.Standing.{StandsFor, StandsInUnits, HasTree, byte_target, unit_target, tree_list, source_of, names_of_regex};
 
 use crate::api::Regex;
 use crate::text::shared;
-use regress_engine_prefix::StartPredicate;
+use regress_engine_prefix::{Landmark, StartPredicate};
 use regress_front::{CaptureGroupName, Error};
 use std::fmt;
+use std::slice;
+
+/// The byte that a landmark is.
+fn byte_of(landmark: &Landmark) -> &u8
+    ensures { result.now ≡ byte_by landmark.now }
+{
+    match landmark {
+        Landmark::Ahead { byte, .. } => byte,
+        Landmark::BehindRun { byte, .. } => byte,
+    }
+}
 
 impl Regex {
     /// Whether there is a match in a text ("RegExp.prototype.test"). Errs with `OutOfMemory` alone.
@@ -69,6 +80,24 @@ impl Regex {
         match self.compiled.byte_program.start_pred() {
             StartPredicate::ByteSeq(bytes) => Some(bytes),
             _ => None,
+        }
+    }
+
+    /// Bytes that stand in each text in which there is a match, where such are known: two or more that each match begins with, or one
+    /// that stands by where it begins. A text in which they stand nowhere need not be searched.
+    ///
+    /// ```rust
+    /// let bytes = regex.required_literal(); // for `\d{4}-(\d\d)` those of `-`, and for `harbour (\w+)` those of `harbour `
+    /// ```
+    pub fn required_literal(&self) -> Option<&[u8]>
+        ensures needed { (t : Table) → (o : Options) → (p : Pattern) → StandsFor self.now t o p → (text : List ℕ) → IsUtf8 text → (place : ℕ) →
+            IfSome result (λ bytes. IsNowhereIn bytes.now text → match_list t o p (chars text) place ≡ []) }
+        ensures needed_by_tree { (n : ℕ) → (t : Tree) → HasTree self.now n t → (text : List ℕ) → IsUtf8 text → (place : ℕ) →
+            IfSome result (λ bytes. IsNowhereIn bytes.now text → tree_list self.now n t (chars text) place ≡ []) }
+    {
+        match self.compiled.byte_program.start_pred() {
+            StartPredicate::ByteNear(_, landmark) => Some(slice::from_ref(byte_of(landmark))),
+            _ => self.literal_prefix(),
         }
     }
 
