@@ -35,7 +35,9 @@ fn a_literal_in_front_is_told(rt: HostRuntime) -> Result<(), Fail> {
     let literal = compiled(rt.alloc(), "harbour (\\w+)", "", &tables)?;
     let choice = compiled(rt.alloc(), "ab|cd", "", &tables)?;
     assert!(rt; tells(literal.literal_prefix(), b"harbour ") && choice.literal_prefix().is_none());
-    assert!(rt; tells(literal.required_literal(), b"harbour ") && choice.required_literal().is_none());
+    assert!(rt;
+        tells(literal.required_literal(), b"harbour ") && choice.required_literal().is_none()
+    );
     Ok(())
 }
 

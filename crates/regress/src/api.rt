@@ -44,8 +44,7 @@ pub struct Regex {
     pub(crate) compiled: Compiled,
 }
 
-// By hand, so that a caller's proof passes over one call where a regex goes out of scope. A derived one is part of the caller's code, with
-// a step for each field of the programs and their tables.
+// By hand, so that a caller's proof passes over one call where a regex goes out of scope, and not over each field of its programs.
 impl Drop for Regex {
     fn drop(self) {
         let Regex {

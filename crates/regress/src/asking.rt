@@ -16,15 +16,14 @@ use crate::text::shared;
 use regress_engine_prefix::{Landmark, StartPredicate};
 use regress_front::{CaptureGroupName, Error};
 use std::fmt;
-use std::slice;
+use std::slice::from_ref;
 
 /// The byte that a landmark is.
 fn byte_of(landmark: &Landmark) -> &u8
     ensures { result.now ≡ byte_by landmark.now }
 {
     match landmark {
-        Landmark::Ahead { byte, .. } => byte,
-        Landmark::BehindRun { byte, .. } => byte,
+        Landmark::Ahead { byte, .. } | Landmark::BehindRun { byte, .. } => byte,
     }
 }
 
@@ -46,8 +45,7 @@ impl Regex {
 
     /// Whether there is a match in a text from `start` on, an offset in bytes ("RegExp.prototype.test").
     ///
-    /// Asks that a search may begin there, as `is_start` tells. Past the end of the text there is none. Errs with
-    /// `OutOfMemory` alone.
+    /// Asks that a search may begin there, as `is_start` tells. Past the end of the text there is none. Errs with `OutOfMemory` alone.
     ///
     /// ```rust
     /// let found = regex.is_match_from("aab", 3)?; // for `a+b` false
@@ -96,7 +94,7 @@ impl Regex {
             IfSome result (λ bytes. IsNowhereIn bytes.now text → tree_list self.now n t (chars text) place ≡ []) }
     {
         match self.compiled.byte_program.start_pred() {
-            StartPredicate::ByteNear(_, landmark) => Some(slice::from_ref(byte_of(landmark))),
+            StartPredicate::ByteNear(_, landmark) => Some(from_ref(byte_of(landmark))),
             _ => self.literal_prefix(),
         }
     }

@@ -57,8 +57,7 @@ impl Regex {
         Regex::from_unicode_with_limit(alloc, &points, flags, tables, limit)
     }
 
-    /// Compiles a pattern that is given as code points as `from_unicode` does, within a limit as `with_limit` has
-    /// it.
+    /// Compiles a pattern that is given as code points as `from_unicode` does, within a limit as `with_limit` has it.
     ///
     /// Asks that all are code points, as `are_code_points` tells. Refused as `with_limit` says.
     ///

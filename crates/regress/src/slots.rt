@@ -24,8 +24,7 @@ impl Regex {
     /// bytes. It answers the range of the match, or `None` where there is none; then the slots stay as they were.
     ///
     /// The scratch is what the search needs room for; it is kept, for searches of whatever regexes and texts, so that a search
-    /// asks for no memory but where it needs more room than all before it, or has gone back so often that it remembers what
-    /// fails.
+    /// asks for no memory but where it needs more room than all before it, or has gone back so often that it remembers what fails.
     ///
     /// Asks that a search may begin at `start`, as `is_start` tells. Past the end of the text there is none. Errs with
     /// `OutOfMemory` alone, and then the slots stay as they were.
@@ -64,8 +63,7 @@ impl Regex {
     /// The match that begins at `start`, an offset in bytes, with no search ("RegExpBuiltinExec" with `y`), as `match_at` answers
     /// it, written to `slots` as `find_into` does.
     ///
-    /// Asks that a search may begin there, as `is_start` tells. Errs with `OutOfMemory` alone, and then the slots stay as they
-    /// were.
+    /// Asks that a search may begin there, as `is_start` tells. Errs with `OutOfMemory` alone, and then the slots stay as they were.
     ///
     /// ```rust
     /// let mut scratch = Scratch::new(alloc);

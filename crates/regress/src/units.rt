@@ -46,8 +46,7 @@ impl Regex {
     }
 
     /// The matches in 16-bit units that are each one character, from `start` on, an offset in units, their ranges told in units
-    /// ("RegExpBuiltinExec"). Any units may be searched, from any start. Past the end there is none. Errs with `OutOfMemory`
-    /// alone.
+    /// ("RegExpBuiltinExec"). Any units may be searched, from any start. Past the end there is none. Errs with `OutOfMemory` alone.
     ///
     /// ```rust
     /// let first = regex.find_from_ucs2(&[0xD83D, 0xDE00], 0)?.next(); // for `.` the match at 0..1

@@ -18,8 +18,7 @@ use std::sync::ArcStr;
 impl Regex {
     ghost use Rattle.regress.specs.Standing.{StandsFor, StandsInUnits, source_of};
 
-    /// Compiles a pattern that has to match a whole text, as HTML's `pattern` attribute has it: `(?-m:^)(?:P)(?-m:$)` for the
-    /// pattern P.
+    /// Compiles a pattern that has to match a whole text, as HTML's `pattern` attribute has it: `(?-m:^)(?:P)(?-m:$)` for the pattern P.
     ///
     /// The regex matches where some way to match P from the start of the text ends at its end, if not the preferred one: for
     /// `a|ab` it matches `ab`. The match is the whole text, with the groups of the first such way; groups keep their numbers

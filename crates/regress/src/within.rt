@@ -19,9 +19,8 @@ impl Regex {
     /// Where the pattern is linear and the steps are enough (`linear_steps`), none errs so: after so many steps as are enough the search goes
     /// on by a table of the text, of a bit for each instruction of its program at each offset of the text.
     ///
-    /// A step does the instruction of one state, or drops the state. One more is counted for each 64 bytes or units that a class
-    /// passes over or that a back reference compares. What looks for the next place where a match may begin is not
-    /// counted.
+    /// A step does the instruction of one state, or drops the state. One more is counted for each 64 bytes or units that a class passes over
+    /// or that a back reference compares. What looks for the next place where a match may begin is not counted.
     ///
     /// ```rust
     /// fn count(regex: &Regex, text: &str) -> Result<usize, SearchError> {
@@ -46,14 +45,13 @@ impl Regex {
     }
 
     /// Works out whether the pattern is linear, and keeps the tables that tell: then as many steps as `linear_steps` tells are enough for a
-    /// search `within` them, whatever the text is. It answers `is_linear`. It takes about half the time that compiling took, and memory that
-    /// grows as the programs do; all else of the regex stays as it is.
+    /// search `within` them, whatever the text is. It answers `is_linear`; all else of the regex stays as it is. It takes up to 0.6 of the
+    /// time that compiling took, and memory that grows as the programs do; where that is refused a pattern isn't known to be linear.
     ///
     /// A pattern is linear that has no back reference and no atomic group; whose repetitions may go on without end or are of one iteration
-    /// at most, with a least number of 0 or 1, or are of one character and have numbers up to 256; in which what is repeated
-    /// can't be empty; and whose lookarounds hold no groups or are negated, with no lookahead inside a lookbehind. Its program has at most
-    /// 65,536 instructions. What has to be repeated more often is written out where it is short, so `(?:ab){2,}` is linear too. Where
-    /// memory for the tables is refused a pattern isn't known to be linear.
+    /// at most, with a least number of 0 or 1, or are of one character and have numbers up to 256; in which what is repeated can't be empty;
+    /// and whose lookarounds hold no groups or are negated, with no lookahead inside a lookbehind. Its program has at most 65,536
+    /// instructions. What has to be repeated more often is written out where it is short, so `(?:ab){2,}` is linear too.
     ///
     /// ```rust
     /// let mut regex = Regex::with_flags(alloc, "(a|ab)*c", Flags::default(), &tables)?;
