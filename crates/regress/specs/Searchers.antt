@@ -8,7 +8,6 @@ use Rattle.regress_front.specs.Trees.{Tree}
 use Rattle.regress_engine_input.specs.Views.{View, Kind, reading_of}
 use Rattle.regress_engine_code.specs.declared.compiled.CompiledRegex.{CompiledRegex}
 use Rattle.regress_engine_code.specs.Standing.{target_of}
-use Rattle.regress_engine_search.specs.Search.{IsMadeOf}
 use Rattle.regress_programs.specs.Programs.{IsProgramOf, IsLaidOutFrom}
 use Rattle.regress.specs.declared.searcher.Searcher.{Searcher}
 
@@ -33,7 +32,5 @@ abbrev pub SearchesByTree : {I : Type 0} {g : _} → Searcher I g → ℕ → Tr
 SearchesByTree s n t = IsLaidOutFrom (target_of (program_by s)) n t
 
 -- It searches with this program, in these bytes or units of this kind.
-pub record IsSearcherOf {I : Type 0} {g : _} (compiled : CompiledRegex) (kind : Kind) (units : List ℕ) (s : Searcher I g) : Type 0 where
-  pub program : program_by s ≡ compiled
-  pub kind : (view_by s).kind ≡ kind
-  pub units : (view_by s).units ≡ units
+abbrev pub IsSearcherOf : {I : Type 0} {g : _} → CompiledRegex → Kind → List ℕ → Searcher I g → Type 0
+IsSearcherOf compiled kind units s = (program_by s ≡ compiled) × ((view_by s).kind ≡ kind) × ((view_by s).units ≡ units)

@@ -39,7 +39,7 @@ fn next_by<Input: ExecutorInput>(
 
 /// Finds matches one after another, as `Search::find_many` does, by a searcher of the text, and gives its room back.
 fn many_by<Input: ExecutorInput>(
-    searcher: Searcher<'_, Input>,
+    mut searcher: Searcher<'_, Input>,
     text: Text<'_>,
     slots: &mut [Option<Range>],
     start: &mut usize,
@@ -57,7 +57,6 @@ fn many_by<Input: ExecutorInput>(
         (place : ℕ) → Begins (reading_of_text text.entry) start.old place →
         FoundMany (reading_of_text text.entry) (match_list t o p (reading_of_text text.entry).points) groups width place found.new start.new ranges.new }
 {
-    let mut searcher = searcher;
     *found = 0;
     let room = ranges.len() / width;
     while *found < room {
