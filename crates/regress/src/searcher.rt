@@ -1,5 +1,5 @@
 //! Many searches of one text, one after another, over a scratch that is kept.
-ghost use Rattle.std.specs.Prelude.{◌≡◌, ℕ, IfOk, OnErr, IsOkUnless, option_map, slice_get};
+ghost use Rattle.std.specs.Prelude.{◌≡◌, ℕ, IfOk, OnErr, option_map, slice_get};
 ghost use Rattle.regress_meaning.specs.Table.{Table};
 ghost use Rattle.regress_meaning.specs.Pattern.{Pattern};
 ghost use Rattle.regress_meaning.specs.Flags.{Options};
@@ -15,9 +15,9 @@ ghost use Rattle.regress.specs.Made.{IsMadeOf-prop};
 use crate::api::Regex;
 use regress_engine_inputs::{Ucs2Input, Utf8Input, Utf16Input};
 use regress_engine_search::{ExecutorInput, Shown};
-use regress_front::Error;
 use regress_match::Range;
 use regress_programs::{Anchored, BacktrackExecutor, Scratch, next_into};
+use std::alloc::AllocError;
 
 /// Searches one text for the matches of a compiled pattern, as often as is asked: from `Regex::searcher` and its kin.
 #[derive(Debug, Drop)]
@@ -36,8 +36,8 @@ impl<'r, Input: ExecutorInput> Searcher<'r, Input> {
     /// ranges are in bytes of a text, and in units of 16-bit units. It answers the range of the match, or `None` where there is none;
     /// then the slots stay as they were.
     ///
-    /// Asks that a search may begin at `start`, as `is_start` and `is_unit_start` tell. Past the end there is none. Errs with
-    /// `OutOfMemory` alone, and then the slots stay as they were; it may be asked again.
+    /// Asks that a search may begin at `start`, as `is_start` and `is_unit_start` tell. Past the end there is none. Errs where
+    /// memory is refused alone, and then the slots stay as they were; it may be asked again.
     ///
     /// ```rust
     /// let mut searcher = regex.searcher(Scratch::new(alloc), "xaab");
@@ -48,7 +48,7 @@ impl<'r, Input: ExecutorInput> Searcher<'r, Input> {
         &mut self,
         start: usize,
         slots: &mut [Option<Range>],
-    ) -> Result<Option<Range>, Error>
+    ) -> Result<Option<Range>, AllocError>
         requires { (place : ℕ) × Begins (reading_by self.old) start place }
         ensures found { (t : Table) → (o : Options) → (p : Pattern) → SearchesFor self.old t o p →
             (place : ℕ) → Begins (reading_by self.old) start place →
@@ -58,11 +58,9 @@ impl<'r, Input: ExecutorInput> Searcher<'r, Input> {
             IfOk result (λ found. Fills (option_map (told (reading_by self.old)) (slice_get (items_of_tree (target_of (program_by self.old)) n t (reading_by self.old).points place) 0)) found slots.old slots.new) }
         ensures inside { IfOk result (λ found. SlotsAreAtPlaces (reading_by self.old) found slots.new) }
         ensures untouched { OnErr result (slots.new ≡ slots.old) }
-        ensures refused { IsOkUnless result Error.OutOfMemory }
         ensures kept { (program_by self.new ≡ program_by self.old) × (view_by self.new ≡ view_by self.old) }
     {
-        let found = next_into(&mut self.executor, Anchored::No, start, slots)?;
-        Ok(found)
+        next_into(&mut self.executor, Anchored::No, start, slots)
     }
 
     /// The room that its searches leave to others.

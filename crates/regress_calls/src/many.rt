@@ -1,5 +1,5 @@
 //! Searches for many matches with one searcher.
-ghost use Rattle.std.specs.Prelude.{◌≡◌, ◌+◌, ◌<◌, ℕ, length, IfOk, OnErr, OnOk, IsOkUnless};
+ghost use Rattle.std.specs.Prelude.{◌≡◌, ◌+◌, ◌<◌, ℕ, length, IfOk, OnErr, OnOk};
 ghost use Rattle.regress_meaning.specs.Flags.{Options};
 ghost use Rattle.regress_meaning.specs.Matches.{match_list};
 ghost use Rattle.regress_meaning.specs.Offsets.{Begins};
@@ -11,8 +11,9 @@ ghost use Rattle.regress_calls.specs.Texts.{reading_of_text, StandsIn};
 
 use crate::text::Text;
 use crate::text_range::{TextRange, show};
-use regress::{Error, Range, Regex, Scratch, Searcher};
+use regress::{Range, Regex, Scratch, Searcher};
 use regress_engine_exec::ExecutorInput;
+use std::alloc::AllocError;
 
 /// Finds the first match from `*start` on, shows its ranges, and moves `*start` behind it; where there is none, past the end.
 fn next_by<Input: ExecutorInput>(
@@ -21,7 +22,7 @@ fn next_by<Input: ExecutorInput>(
     slots: &mut [Option<Range>],
     start: &mut usize,
     ranges: &mut [TextRange],
-) -> Result<bool, Error>
+) -> Result<bool, AllocError>
     requires over { reading_by searcher.old ≡ reading_of_text text }
     requires start { (place : ℕ) × Begins (reading_of_text text) start.old place }
     ensures found { (t : Table) → (o : Options) → (p : Pattern) → SearchesFor searcher.old t o p → (groups : ℕ) → length slots.old ≡ groups + 1 →
@@ -30,30 +31,29 @@ fn next_by<Input: ExecutorInput>(
     ensures start { (place : ℕ) × Begins (reading_of_text text.entry) start.new place }
     ensures kept { (program_by searcher.new ≡ program_by searcher.old) × (reading_by searcher.new ≡ reading_by searcher.old) }
     ensures untouched { OnErr result (start.new ≡ start.old) }
-    ensures refused { IsOkUnless result Error.OutOfMemory }
 {
     let found = searcher.find_into(*start, slots)?;
     *start = text.start_behind(&found);
     Ok(show(found, slots, ranges) > 0)
 }
 
-/// Finds matches one after another, as `Search::find_many` does, by a searcher of the text, and gives its room back.
+/// Finds matches one after another, as `Search::find_many` does, by a searcher of the text.
 fn many_by<Input: ExecutorInput>(
-    mut searcher: Searcher<'_, Input>,
+    searcher: &mut Searcher<'_, Input>,
     text: Text<'_>,
     slots: &mut [Option<Range>],
     start: &mut usize,
     ranges: &mut [TextRange],
     width: usize,
     found: &mut usize,
-) -> (Scratch, Result<(), Error>)
-    requires over { reading_by searcher ≡ reading_of_text text }
+) -> Result<(), AllocError>
+    requires over { reading_by searcher.old ≡ reading_of_text text }
     requires start { (place : ℕ) × Begins (reading_of_text text) start.old place }
     requires width { 0 < width }
-    ensures found { (t : Table) → (o : Options) → (p : Pattern) → SearchesFor searcher.entry t o p → (groups : ℕ) → length slots.old ≡ groups + 1 →
+    ensures found { (t : Table) → (o : Options) → (p : Pattern) → SearchesFor searcher.old t o p → (groups : ℕ) → length slots.old ≡ groups + 1 →
         (place : ℕ) → Begins (reading_of_text text.entry) start.old place →
-        OnOk result.1 (FoundAsManyAsFit (reading_of_text text.entry) (match_list t o p (reading_of_text text.entry).points) groups width place found.new start.new ranges.new) }
-    ensures before { (t : Table) → (o : Options) → (p : Pattern) → SearchesFor searcher.entry t o p → (groups : ℕ) → length slots.old ≡ groups + 1 →
+        OnOk result (FoundAsManyAsFit (reading_of_text text.entry) (match_list t o p (reading_of_text text.entry).points) groups width place found.new start.new ranges.new) }
+    ensures before { (t : Table) → (o : Options) → (p : Pattern) → SearchesFor searcher.old t o p → (groups : ℕ) → length slots.old ≡ groups + 1 →
         (place : ℕ) → Begins (reading_of_text text.entry) start.old place →
         FoundMany (reading_of_text text.entry) (match_list t o p (reading_of_text text.entry).points) groups width place found.new start.new ranges.new }
 {
@@ -61,17 +61,16 @@ fn many_by<Input: ExecutorInput>(
     let room = ranges.len() / width;
     while *found < room {
         let at = *found * width;
-        match next_by(&mut searcher, text, slots, start, &mut ranges[at..at + width]) {
-            Ok(true) => *found += 1,
-            Ok(false) => return (searcher.into_scratch(), Ok(())),
-            Err(e) => return (searcher.into_scratch(), Err(e)),
+        if !next_by(searcher, text, slots, start, &mut ranges[at..at + width])? {
+            return Ok(());
         }
+        *found += 1;
     }
-    (searcher.into_scratch(), Ok(()))
+    Ok(())
 }
 
-/// Finds matches one after another, as `Search::find_many` does, by a searcher of the regex for the kind of the text, and gives its room
-/// back.
+/// Finds matches one after another, as `Search::find_many` does, by one searcher of the regex for the kind of the text, and gives its
+/// room back.
 pub(crate) fn many_in(
     regex: &Regex,
     scratch: Scratch,
@@ -81,7 +80,7 @@ pub(crate) fn many_in(
     ranges: &mut [TextRange],
     width: usize,
     found: &mut usize,
-) -> (Scratch, Result<(), Error>)
+) -> (Scratch, Result<(), AllocError>)
     requires start { (place : ℕ) × Begins (reading_of_text text) start.old place }
     requires width { 0 < width }
     ensures found { (t : Table) → (o : Options) → (p : Pattern) → StandsIn text.entry regex.now t o p → (groups : ℕ) → length slots.old ≡ groups + 1 →
@@ -93,16 +92,19 @@ pub(crate) fn many_in(
 {
     match text {
         Text::Utf8(bytes) | Text::Ascii(bytes) => {
-            let searcher = regex.searcher(scratch, bytes);
-            many_by(searcher, text, slots, start, ranges, width, found)
+            let mut by = regex.searcher(scratch, bytes);
+            let done = many_by(&mut by, text, slots, start, ranges, width, found);
+            (by.into_scratch(), done)
         }
         Text::Utf16(units) => {
-            let searcher = regex.searcher_utf16(scratch, units);
-            many_by(searcher, text, slots, start, ranges, width, found)
+            let mut by = regex.searcher_utf16(scratch, units);
+            let done = many_by(&mut by, text, slots, start, ranges, width, found);
+            (by.into_scratch(), done)
         }
         Text::Ucs2(units) => {
-            let searcher = regex.searcher_ucs2(scratch, units);
-            many_by(searcher, text, slots, start, ranges, width, found)
+            let mut by = regex.searcher_ucs2(scratch, units);
+            let done = many_by(&mut by, text, slots, start, ranges, width, found);
+            (by.into_scratch(), done)
         }
     }
 }
