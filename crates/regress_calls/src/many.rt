@@ -91,7 +91,12 @@ pub(crate) fn many_in(
         FoundMany (reading_of_text text.entry) (match_list t o p (reading_of_text text.entry).points) groups width place found.new start.new ranges.new }
 {
     match text {
-        Text::Utf8(bytes) | Text::Ascii(bytes) => {
+        Text::Utf8(bytes) => {
+            let mut by = regex.searcher(scratch, bytes);
+            let done = many_by(&mut by, text, slots, start, ranges, width, found);
+            (by.into_scratch(), done)
+        }
+        Text::Ascii(bytes) => {
             let mut by = regex.searcher(scratch, bytes);
             let done = many_by(&mut by, text, slots, start, ranges, width, found);
             (by.into_scratch(), done)
