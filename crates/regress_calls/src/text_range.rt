@@ -44,11 +44,7 @@ pub(crate) fn write_ranges(slots: &[Option<Range>], ranges: &mut [TextRange])
 }
 
 /// Shows the ranges of the match that stand in the slots, if one was found, and tells how many it has.
-pub(crate) fn show(
-    found: Option<Range>,
-    slots: &[Option<Range>],
-    ranges: &mut [TextRange],
-) -> usize
+pub(crate) fn show(found: Option<Range>, slots: &[Option<Range>], ranges: &mut [TextRange]) -> usize
     ensures shown { (groups : ℕ) → length slots.now ≡ groups + 1 → (i : Option Item) → (old : List (Option (Ends ℕ))) → IsInSlots i old found slots.now →
         IsAnswerTo groups i ranges.old result ranges.new }
     ensures few { length slots.now ≤ 65536 → result ≤ 65536 }
