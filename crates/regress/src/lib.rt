@@ -11,6 +11,7 @@ mod laws;
 mod limited;
 mod programs;
 mod replacing;
+mod searcher;
 mod slots;
 mod splitting;
 mod sticky;
@@ -43,4 +44,5 @@ pub use regress_programs::{
     programs_of_trees_are_of_patterns,
 };
 pub use regress_replacing::{ReplacementSyntax, escape, expand};
+pub use searcher::Searcher;
 pub use splitting::{Split, SplitN};

@@ -1,7 +1,9 @@
 -- A search may begin where a match ends.
 use Rattle.std.specs.Prelude.{ℕ, List, Option, Some, None, Result, Ok, Err, IfOk}
+use Rattle.std.proofs.Common.{inl, sym}
 use Rattle.std.specs.declared.ops.Range.{Range}
 use Rattle.regress_meaning.specs.Offsets.{Reading, of_utf8}
+use Rattle.regress_programs.specs.Filling.{SlotsAreAtPlaces}
 use Rattle.regress.specs.Slotted.{EndsAreStarts, SlotsLieInUnits}
 use Rattle.regress_calls.specs.Texts.{EndsAtStart}
 
@@ -24,3 +26,8 @@ module _ {E : Type 0} (result : Result (Option (Range ℕ)) E) where
       by_result (Ok None) lie = tt
       by_result (Ok (Some range)) lie = lie.0.3
       by_result (Err e) lie = tt
+
+-- and where the ranges are at places
+pub ends-at-places : (reading : Reading) (found : Option (Range ℕ)) (slots : List (Option (Range ℕ))) → SlotsAreAtPlaces reading found slots → EndsAtStart reading found
+ends-at-places reading None slots at = tt
+ends-at-places reading (Some range) slots at = let (p, room, here) = at.0.1 in (p, inl (room, sym here))

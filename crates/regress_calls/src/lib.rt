@@ -9,6 +9,7 @@ mod compiling;
 mod finding;
 mod held;
 mod making;
+mod many;
 mod numbers;
 mod search;
 mod sharing;

@@ -5,10 +5,12 @@ ghost use Rattle.regress.specs.Standing.{names_of_regex};
 
 use crate::call_error::CallError;
 use crate::finding::{find_into, match_into};
+use crate::many::many_in;
 use crate::text::Text;
-use crate::text_range::{TextRange, write_ranges};
+use crate::text_range::{TextRange, show};
 use regress::{Range, Regex, Scratch, SearchError};
 use std::alloc::Global;
+use std::mem;
 use std::sync::Arc;
 
 /// How many ranges a match has at most: that of the whole match, and those of its groups.
@@ -17,6 +19,7 @@ pub const MAX_RANGES: usize = 65536;
 /// A search of a pattern, and the memory that it keeps from one text to the next.
 #[derive(Drop)]
 pub struct Search {
+    alloc: Global,
     regex: Arc<Regex>,
     scratch: Scratch,
     /// How many steps the search for a match may take; any number where there is none.
@@ -28,7 +31,7 @@ pub struct Search {
 }
 
 impl Search {
-    ghost use Rattle.std.specs.Prelude.{ℕ, List, Option, IfOk, IfErr, None, OnErr, OnOk, IsErrOf, option_map, slice_get};
+    ghost use Rattle.std.specs.Prelude.{ℕ, List, Option, IfOk, IfErr, None, OnErr, OnOk, IsErrOf, IsOkUnless, option_map, slice_get};
     ghost use Rattle.regress_meaning.specs.Table.{Table};
     ghost use Rattle.regress_meaning.specs.Pattern.{Pattern};
     ghost use Rattle.regress_meaning.specs.Flags.{Options};
@@ -57,6 +60,7 @@ impl Search {
         let slots = Vec::from_elem(alloc, None, count)?;
         let scratch = Scratch::new(alloc);
         Ok(Search {
+            alloc,
             regex,
             scratch,
             max_steps: None,
@@ -184,6 +188,36 @@ impl Search {
         ensures stopped { IsErrOf result SearchError.TooManySteps →
             IsStopped (OfSearch (arc_value self.old.regex) self.old.max_steps) No (kind_of_text text.entry) (units_of_text text.entry) start.new }
     {
+        match self.max_steps {
+            Some(_) => self.find_each(text, start, ranges, width, found),
+            None => self.find_all(text, start, ranges, width, found),
+        }
+    }
+
+    /// Finds matches one after another, as `find_many` does, each by a search of its own.
+    fn find_each(
+        &mut self,
+        text: Text<'_>,
+        start: &mut usize,
+        ranges: &mut [TextRange],
+        width: usize,
+        found: &mut usize,
+    ) -> Result<(), SearchError>
+        requires kind { IsOfItsKind text }
+        requires start { (place : ℕ) × Begins (reading_of_text text) start.old place }
+        requires width { 0 < width }
+        ensures found { (t : Table) → (o : Options) → (p : Pattern) → StandsIn text.entry (arc_value self.old.regex) t o p →
+            (place : ℕ) → Begins (reading_of_text text.entry) start.old place →
+            OnOk result (FoundAsManyAsFit (reading_of_text text.entry) (match_list t o p (reading_of_text text.entry).points)
+            (length (names_of_regex (arc_value self.old.regex))) width place found.new start.new ranges.new) }
+        ensures before { (t : Table) → (o : Options) → (p : Pattern) → StandsIn text.entry (arc_value self.old.regex) t o p →
+            (place : ℕ) → Begins (reading_of_text text.entry) start.old place →
+            FoundMany (reading_of_text text.entry) (match_list t o p (reading_of_text text.entry).points)
+            (length (names_of_regex (arc_value self.old.regex))) width place found.new start.new ranges.new }
+        ensures kept { (arc_value self.new.regex ≡ arc_value self.old.regex) × (self.new.max_steps ≡ self.old.max_steps) }
+        ensures stopped { IsErrOf result SearchError.TooManySteps →
+            IsStopped (OfSearch (arc_value self.old.regex) self.old.max_steps) No (kind_of_text text.entry) (units_of_text text.entry) start.new }
+    {
         *found = 0;
         let room = ranges.len() / width;
         while *found < room {
@@ -194,6 +228,46 @@ impl Search {
             *found += 1;
         }
         Ok(())
+    }
+
+    /// Finds matches one after another, as `find_many` does where there is no bound, all by one searcher.
+    fn find_all(
+        &mut self,
+        text: Text<'_>,
+        start: &mut usize,
+        ranges: &mut [TextRange],
+        width: usize,
+        found: &mut usize,
+    ) -> Result<(), SearchError>
+        requires start { (place : ℕ) × Begins (reading_of_text text) start.old place }
+        requires width { 0 < width }
+        ensures found { (t : Table) → (o : Options) → (p : Pattern) → StandsIn text.entry (arc_value self.old.regex) t o p →
+            (place : ℕ) → Begins (reading_of_text text.entry) start.old place →
+            OnOk result (FoundAsManyAsFit (reading_of_text text.entry) (match_list t o p (reading_of_text text.entry).points)
+            (length (names_of_regex (arc_value self.old.regex))) width place found.new start.new ranges.new) }
+        ensures before { (t : Table) → (o : Options) → (p : Pattern) → StandsIn text.entry (arc_value self.old.regex) t o p →
+            (place : ℕ) → Begins (reading_of_text text.entry) start.old place →
+            FoundMany (reading_of_text text.entry) (match_list t o p (reading_of_text text.entry).points)
+            (length (names_of_regex (arc_value self.old.regex))) width place found.new start.new ranges.new }
+        ensures kept { (arc_value self.new.regex ≡ arc_value self.old.regex) × (self.new.max_steps ≡ self.old.max_steps) }
+        ensures refused { IsOkUnless result SearchError.OutOfMemory }
+    {
+        let lent = mem::replace(&mut self.scratch, Scratch::new(self.alloc));
+        let (scratch, done) = many_in(
+            &self.regex,
+            lent,
+            text,
+            &mut self.slots,
+            start,
+            ranges,
+            width,
+            found,
+        );
+        self.scratch = scratch;
+        match done {
+            Ok(()) => Ok(()),
+            Err(_) => Err(SearchError::OutOfMemory),
+        }
     }
 
     /// Finds the first match from `*start` on, writes its ranges as `find` does, and moves `*start` behind it; where there is
@@ -234,10 +308,6 @@ impl Search {
             IsAnswerTo (length (names_of_regex (arc_value self.now.regex))) i ranges.old result ranges.new }
         ensures few { result ≤ 65536 }
     {
-        if found.is_none() {
-            return 0;
-        }
-        write_ranges(&self.slots, ranges);
-        self.slots.len()
+        show(found, &self.slots, ranges)
     }
 }

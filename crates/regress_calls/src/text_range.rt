@@ -1,7 +1,10 @@
 //! Ranges in a caller's memory.
-ghost use Rattle.std.specs.Prelude.{◌≡◌, ◌<◌, ℕ, length, option_map, slice_get, unwrap_or, Some, None};
+ghost use Rattle.std.specs.Prelude.{◌≡◌, ◌+◌, ◌<◌, ◌≤◌, ℕ, List, Option, length, option_map, slice_get, unwrap_or, Some, None};
+ghost use Rattle.std.specs.declared.ops.Range.{Range as Ends};
+ghost use Rattle.regress_meaning.specs.Matches.{Item};
 ghost use Rattle.regress_match.specs.Views.{ends};
-ghost use Rattle.regress_calls.specs.Ranges.{shown_range, range_numbered};
+ghost use Rattle.regress_calls.specs.Ranges.{IsAnswerTo, shown_range, range_numbered};
+ghost use Rattle.regress_calls.specs.Slotted.{IsInSlots};
 
 use regress::Range;
 
@@ -38,4 +41,17 @@ pub(crate) fn write_ranges(slots: &[Option<Range>], ranges: &mut [TextRange])
     for (k, range) in ranges.iter_mut().enumerate() {
         *range = TextRange::of(slots.get(k));
     }
+}
+
+/// Shows the ranges of the match that stand in the slots, if one was found, and tells how many it has.
+pub(crate) fn show(found: Option<Range>, slots: &[Option<Range>], ranges: &mut [TextRange]) -> usize
+    ensures shown { (groups : ℕ) → length slots.now ≡ groups + 1 → (i : Option Item) → (old : List (Option (Ends ℕ))) → IsInSlots i old found slots.now →
+        IsAnswerTo groups i ranges.old result ranges.new }
+    ensures few { length slots.now ≤ 65536 → result ≤ 65536 }
+{
+    if found.is_none() {
+        return 0;
+    }
+    write_ranges(slots, ranges);
+    slots.len()
 }

@@ -15,5 +15,5 @@ pub use laws::programs_of_trees_are_of_patterns;
 pub use matches::Matches;
 pub use regress_engine_exec::{BacktrackExecutor, Scratch, SearchError};
 pub use searching::first_within;
-pub use slots::{Anchored, find_into, find_into_within};
+pub use slots::{Anchored, find_into, find_into_within, next_into};
 pub use units::{Ucs2Matches, Utf16Matches};

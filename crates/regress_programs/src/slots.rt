@@ -30,8 +30,17 @@ pub enum Anchored {
     Yes,
 }
 
-/// The first match that an executor finds from an offset on, or the one that begins there, written to slots; none past the end.
-fn next_into<Input: ExecutorInput, B: SearchBudget>(
+/// The first match that an executor finds from an offset on, or the one that begins there, written to slots as `find_into` writes it;
+/// none past the end. So one executor serves many searches of its text.
+///
+/// Asks that the executor's program is made for its input, and that a search may begin at the offset. Errs as the executor does, and then
+/// the slots stay as they were.
+///
+/// ```rust
+/// let mut executor = BacktrackExecutor::new(alloc, &program, "aab");
+/// let found = next_into(&mut executor, Anchored::No, 0, &mut slots)?;
+/// ```
+pub fn next_into<Input: ExecutorInput, B: SearchBudget>(
     executor: &mut Backtracker<'_, Input, B>,
     anchored: Anchored,
     start: usize,
@@ -48,6 +57,7 @@ fn next_into<Input: ExecutorInput, B: SearchBudget>(
     ensures never { IfErr result (NeverOver B.is_over (turns_in executor.old)) }
     ensures stopped { IfErr result (λ e. B.is_over e →
         Counts anchored executor.old.context.program.now (Input.view executor.old.context.input) start (B.left (budget_of executor.old)) (Some 0)) }
+    ensures kept { executor.new.context ≡ executor.old.context }
 {
     let Some(position) = executor.initial_position(start) else {
         return Ok(None);

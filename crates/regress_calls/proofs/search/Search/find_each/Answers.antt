@@ -5,7 +5,7 @@ use Rattle.regress.specs.Standing.{names_of_regex}
 use Rattle.regress_calls.specs.Many.{IsNext}
 use Rattle.regress_calls.specs.Texts.{reading_of_text}
 use Rattle.regress_calls.proofs.ManyLemmas.{NextAfter, next-after, none-yet, many-more, many-still, many-ended, many-full, room-for-more, no-more-room}
-use Rattle.regress_calls.proofs.search.Search.find_many.Goals as goal
+use Rattle.regress_calls.proofs.search.Search.find_each.Goals as goal
 
 pub loop-found-init : goal.loop-found-init
 loop-found-init c = ((refl, refl), c.requires.start, λ t o p stands place begins. none-yet _ _ _ _ _ _ _ begins)

@@ -8,7 +8,7 @@ use Rattle.regress_meaning.specs.Table.{Table}
 use Rattle.regress.specs.Standing.{names_of_regex}
 use Rattle.regress_calls.specs.Many.{FoundMany}
 use Rattle.regress_calls.specs.Texts.{StandsIn, reading_of_text}
-use Rattle.regress_calls.proofs.search.Search.find_many.Given as goal
+use Rattle.regress_calls.proofs.search.Search.find_each.Given as goal
 
 -- what is found so far is shown, for the regex that is searched for, with its bound, and the search goes on at a start
 abbrev pub invariant-loop-found : goal.invariant-loop-found
