@@ -14,5 +14,3 @@ pub use Rattle.regress_programs.specs.Slotted
 pub use Rattle.regress_programs.specs.Ascii
 pub mod Literals
 pub mod Linear
-pub mod Made
-pub mod Searchers

@@ -205,8 +205,7 @@ impl Regex {
 
     /// The matches in a text from `start` on, an offset in bytes, as `find_iter` answers them.
     ///
-    /// Asks that a search may begin there, as `is_start` tells. Past the end of the text there is none. Errs with
-    /// `OutOfMemory` alone.
+    /// Asks that a search may begin there, as `is_start` tells. Past the end of the text there is none. Errs with `OutOfMemory` alone.
     ///
     /// ```rust
     /// let second = regex.find_from("aab ab", 3)?.next(); // for `a+b` the match at 4..6

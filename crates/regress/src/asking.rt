@@ -15,6 +15,7 @@ use crate::api::Regex;
 use crate::text::shared;
 use regress_engine_prefix::{Landmark, StartPredicate};
 use regress_front::{CaptureGroupName, Error};
+use regress_programs::Compiled;
 use std::fmt;
 use std::slice::from_ref;
 
@@ -97,6 +98,17 @@ impl Regex {
             StartPredicate::ByteNear(_, landmark) => Some(from_ref(byte_of(landmark))),
             _ => self.literal_prefix(),
         }
+    }
+
+    /// What the pattern was compiled to: its programs, as `Searcher` takes them.
+    ///
+    /// ```rust
+    /// let program = &regex.compiled().byte_program;
+    /// ```
+    pub fn compiled(&self) -> &Compiled
+        ensures { result.now ≡ self.now.compiled }
+    {
+        &self.compiled
     }
 
     /// The name of each capturing group in order of its number, empty where it has none.

@@ -11,7 +11,6 @@ mod laws;
 mod limited;
 mod programs;
 mod replacing;
-mod searcher;
 mod slots;
 mod splitting;
 mod sticky;
@@ -40,9 +39,8 @@ pub use regress_front::{
 };
 pub use regress_match::{Groups, Match, NamedGroups, Range};
 pub use regress_programs::{
-    AsciiMatches, Matches, Scratch, SearchError, Ucs2Matches, Utf16Matches,
+    AsciiMatches, Compiled, Matches, Scratch, SearchError, Searcher, Ucs2Matches, Utf16Matches,
     programs_of_trees_are_of_patterns,
 };
 pub use regress_replacing::{ReplacementSyntax, escape, expand};
-pub use searcher::Searcher;
 pub use splitting::{Split, SplitN};

@@ -26,9 +26,8 @@ pub const DEFAULT_LIMIT: usize = 1_000_000;
 impl Regex {
     ghost use Rattle.regress.specs.Standing.{source_of};
 
-    /// Compiles a pattern as `with_flags` does, if neither of its two programs may have more instructions than a limit. That is
-    /// told before anything of their size is made. It is for patterns of strangers, of which a short one may stand for a very
-    /// large program.
+    /// Compiles a pattern as `with_flags` does, if neither of its two programs may have more instructions than a limit. That is told before
+    /// anything of their size is made. It is for patterns of strangers, of which a short one may stand for a very large program.
     ///
     /// A pattern costs about a node for each character. It costs one for each group of a name that a reference tells, for each
     /// group that a repetition resets, and for each node of each copy of a small body that unrolling makes. Each of the two

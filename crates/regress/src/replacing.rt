@@ -131,8 +131,7 @@ impl Regex {
         regress_matched::replace_first(self.alloc, matches, text, limit, read)
     }
 
-    /// A text with each match replaced by a replacement text, which is read as `replace` says ("RegExp.prototype
-    /// [ @@replace ]").
+    /// A text with each match replaced by a replacement text, which is read as `replace` says ("RegExp.prototype [ @@replace ]").
     ///
     /// Errs with `OutOfMemory` alone.
     ///

@@ -24,8 +24,7 @@ impl Regex {
     ghost use Rattle.regress.specs.Units.{IsMatchInUnits};
 
     /// The match that begins at `start`, an offset in bytes, with no search ("RegExpBuiltinExec" with `y`): the most preferred
-    /// outcome there, its ranges told in bytes. `None` where the pattern has none there, whatever later places have, and past
-    /// the end.
+    /// outcome there, its ranges told in bytes. `None` where the pattern has none there, whatever later places have, and past the end.
     ///
     /// Asks that a search may begin there, as `is_start` tells. Errs with `OutOfMemory` alone.
     ///

@@ -5,7 +5,7 @@ ghost use Rattle.regress_meaning.specs.Matches.{match_list};
 ghost use Rattle.regress_meaning.specs.Offsets.{Begins};
 ghost use Rattle.regress_meaning.specs.Pattern.{Pattern};
 ghost use Rattle.regress_meaning.specs.Table.{Table};
-ghost use Rattle.regress.specs.Searchers.{SearchesFor, program_by, reading_by};
+ghost use Rattle.regress_programs.specs.Searchers.{SearchesFor, program_by, reading_by};
 ghost use Rattle.regress_calls.specs.Many.{FoundAsManyAsFit, FoundMany, IsNext};
 ghost use Rattle.regress_calls.specs.Texts.{reading_of_text, StandsIn};
 
@@ -13,7 +13,7 @@ use crate::text::Text;
 use crate::text_range::{TextRange, show};
 use regress::{Range, Regex, Scratch, Searcher};
 use regress_engine_exec::ExecutorInput;
-use std::alloc::AllocError;
+use std::alloc::{AllocError, Global};
 
 /// Finds the first match from `*start` on, shows its ranges, and moves `*start` behind it; where there is none, past the end.
 fn next_by<Input: ExecutorInput>(
@@ -72,6 +72,7 @@ fn many_by<Input: ExecutorInput>(
 /// Finds matches one after another, as `Search::find_many` does, by one searcher of the regex for the kind of the text, and gives its
 /// room back.
 pub(crate) fn many_in(
+    alloc: Global,
     regex: &Regex,
     scratch: Scratch,
     text: Text<'_>,
@@ -92,22 +93,22 @@ pub(crate) fn many_in(
 {
     match text {
         Text::Utf8(bytes) => {
-            let mut by = regex.searcher(scratch, bytes);
+            let mut by = Searcher::over_utf8(alloc, regex.compiled(), scratch, bytes);
             let done = many_by(&mut by, text, slots, start, ranges, width, found);
             (by.into_scratch(), done)
         }
         Text::Ascii(bytes) => {
-            let mut by = regex.searcher(scratch, bytes);
+            let mut by = Searcher::over_utf8(alloc, regex.compiled(), scratch, bytes);
             let done = many_by(&mut by, text, slots, start, ranges, width, found);
             (by.into_scratch(), done)
         }
         Text::Utf16(units) => {
-            let mut by = regex.searcher_utf16(scratch, units);
+            let mut by = Searcher::over_utf16(alloc, regex.compiled(), scratch, units);
             let done = many_by(&mut by, text, slots, start, ranges, width, found);
             (by.into_scratch(), done)
         }
         Text::Ucs2(units) => {
-            let mut by = regex.searcher_ucs2(scratch, units);
+            let mut by = Searcher::over_ucs2(alloc, regex.compiled(), scratch, units);
             let done = many_by(&mut by, text, slots, start, ranges, width, found);
             (by.into_scratch(), done)
         }

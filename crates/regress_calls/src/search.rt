@@ -254,6 +254,7 @@ impl Search {
     {
         let lent = mem::replace(&mut self.scratch, Scratch::new(self.alloc));
         let (scratch, done) = many_in(
+            self.alloc,
             &self.regex,
             lent,
             text,

@@ -10,4 +10,6 @@ pub mod Units
 pub mod Ascii
 pub mod Slotted
 pub mod Tables
+pub mod Made
+pub mod Searchers
 pub use Rattle.regress_engine_exec.specs.Turned

@@ -4,7 +4,7 @@ use Rattle.regress_meaning.specs.Matches.{match_list}
 use Rattle.regress_meaning.specs.Offsets.{Begins}
 use Rattle.regress_meaning.specs.Pattern.{Pattern}
 use Rattle.regress_meaning.specs.Table.{Table}
-use Rattle.regress.specs.Searchers.{SearchesFor, program_by, reading_by}
+use Rattle.regress_programs.specs.Searchers.{SearchesFor, program_by, reading_by}
 use Rattle.regress_calls.specs.Many.{FoundMany}
 use Rattle.regress_calls.specs.Texts.{reading_of_text}
 use Rattle.regress_calls.proofs.many.many_by.Given as goal

@@ -9,7 +9,7 @@ use Rattle.regress_engine_input.specs.Views.{View, Kind, reading_of}
 use Rattle.regress_engine_code.specs.declared.compiled.CompiledRegex.{CompiledRegex}
 use Rattle.regress_engine_code.specs.Standing.{target_of}
 use Rattle.regress_programs.specs.Programs.{IsProgramOf, IsLaidOutFrom}
-use Rattle.regress.specs.declared.searcher.Searcher.{Searcher}
+use Rattle.regress_programs.specs.declared.searcher.Searcher.{Searcher}
 
 -- the program that it searches with
 abbrev pub program_by : {I : Type 0} {g : _} → Searcher I g → CompiledRegex

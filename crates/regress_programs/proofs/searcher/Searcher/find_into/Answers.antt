@@ -7,9 +7,9 @@ use Rattle.regress_engine_input.specs.Views.{View, AreOfKind, reading_of}
 use Rattle.regress_engine_input.proofs.KindLemmas.{tells}
 use Rattle.regress_programs.specs.declared.slots.Anchored.TheVariants.{No}
 use Rattle.regress_programs.specs.Filling.{SlotsAreAtPlaces, first_told}
-use Rattle.regress.specs.Searchers.{reading_by, view_by}
-use Rattle.regress.proofs.ListedLemmas.{pattern-listed}
-use Rattle.regress.proofs.searcher.Searcher.find_into.Goals as goal
+use Rattle.regress_programs.specs.Searchers.{reading_by, view_by}
+use Rattle.regress_programs.proofs.ListedLemmas.{pattern-listed}
+use Rattle.regress_programs.proofs.searcher.Searcher.find_into.Goals as goal
 
 pub returns-clause-found_of_tree : goal.returns-clause-found_of_tree
 returns-clause-found_of_tree g c = λ n t laid place.

@@ -10,16 +10,17 @@ ghost use Rattle.regress_match.specs.Slots.{Fills};
 ghost use Rattle.regress_engine_code.specs.Standing.{target_of};
 ghost use Rattle.regress_engine_input.specs.Views.{ucs2, utf8, utf16};
 ghost use Rattle.regress_engine_search.specs.Search.{IsMadeOf};
-ghost use Rattle.regress.specs.Made.{IsMadeOf-prop};
+ghost use Rattle.regress_programs.specs.Made.{IsMadeOf-prop};
 
-use crate::api::Regex;
+use crate::compiled::Compiled;
+use crate::slots::{Anchored, next_into};
+use regress_engine_exec::{BacktrackExecutor, Scratch};
 use regress_engine_inputs::{Ucs2Input, Utf8Input, Utf16Input};
 use regress_engine_search::{ExecutorInput, Shown};
 use regress_match::Range;
-use regress_programs::{Anchored, BacktrackExecutor, Scratch, next_into};
-use std::alloc::AllocError;
+use std::alloc::{AllocError, Global};
 
-/// Searches one text for the matches of a compiled pattern, as often as is asked: from `Regex::searcher` and its kin.
+/// Searches one text for the matches of a compiled pattern, as often as is asked.
 #[derive(Debug, Drop)]
 pub struct Searcher<'r, Input: Shown> {
     executor: BacktrackExecutor<'r, Input>,
@@ -29,7 +30,7 @@ pub struct Searcher<'r, Input: Shown> {
 impl<'r, Input: ExecutorInput> Searcher<'r, Input> {
     ghost use Rattle.regress_programs.specs.Filling.{SlotsAreAtPlaces};
     ghost use Rattle.regress_programs.specs.Programs.{items_of_tree};
-    ghost use Rattle.regress.specs.Searchers.{SearchesByTree, SearchesFor, program_by, reading_by, view_by};
+    ghost use Rattle.regress_programs.specs.Searchers.{SearchesByTree, SearchesFor, program_by, reading_by, view_by};
 
     /// The first match from `start` on, written to `slots` as `Regex::find_into` writes it ("RegExpBuiltinExec"): slot 0 gets the range
     /// of the match, slot i that of group i, as many as there is room for, and a slot behind the last group gets `None`. `start` and
@@ -40,7 +41,7 @@ impl<'r, Input: ExecutorInput> Searcher<'r, Input> {
     /// memory is refused alone, and then the slots stay as they were; it may be asked again.
     ///
     /// ```rust
-    /// let mut searcher = regex.searcher(Scratch::new(alloc), "xaab");
+    /// let mut searcher = Searcher::over_utf8(alloc, &compiled, Scratch::new(alloc), "xaab");
     /// let mut slots = [None, None];
     /// let range = searcher.find_into(0, &mut slots)?; // for `(a+)b` 1..4, and `slots[1]` is `Some(1..3)`
     /// ```
@@ -73,63 +74,69 @@ impl<'r, Input: ExecutorInput> Searcher<'r, Input> {
     }
 }
 
-impl Regex {
-    ghost use Rattle.regress.specs.Searchers.{IsSearcherOf};
+impl<'r, 't> Searcher<'r, Utf8Input<'r, 't>> {
+    ghost use Rattle.regress_programs.specs.Searchers.{IsSearcherOf};
 
-    /// A searcher of a text: `find_into` of it finds what `find_into` of the regex does, and many searches of one text are quicker so.
-    /// Offsets are in bytes. What they need room for is the scratch, which `into_scratch` gives back.
+    /// A searcher of a text: many searches of one text are quicker so. Offsets are in bytes. What they need room for is the scratch, which
+    /// `into_scratch` gives back.
     ///
     /// ```rust
-    /// let mut searcher = regex.searcher(Scratch::new(alloc), "xaab");
+    /// let mut searcher = Searcher::over_utf8(alloc, &compiled, Scratch::new(alloc), "xaab");
     /// ```
-    pub fn searcher<'r, 't>(
-        &'r self,
-        scratch: Scratch,
-        text: &'t str,
-    ) -> Searcher<'r, Utf8Input<'r, 't>>
-        ensures of { IsSearcherOf self.now.compiled.byte_program utf8 text.now result }
+    pub fn over_utf8(alloc: Global, compiled: &'r Compiled, scratch: Scratch, text: &'t str) -> Self
+        ensures { IsSearcherOf compiled.now.byte_program utf8 text.now result }
     {
-        let program = &self.compiled.byte_program;
+        let program = &compiled.byte_program;
         let input = Utf8Input::new(text, program.flags().is_unicode(), program.tables());
-        let executor = BacktrackExecutor::with_scratch(self.alloc, program, input, scratch);
+        let executor = BacktrackExecutor::with_scratch(alloc, program, input, scratch);
         Searcher { executor }
     }
+}
 
-    /// A searcher of units of UTF-16, where a high one before a low one is one character: `find_into` of it finds what `find_into_utf16`
-    /// does. Offsets are in units. What its searches need room for is the scratch, which `into_scratch` gives back.
+impl<'r, 't> Searcher<'r, Utf16Input<'r, 't>> {
+    ghost use Rattle.regress_programs.specs.Searchers.{IsSearcherOf};
+
+    /// A searcher of units of UTF-16, where a high one before a low one is one character. Offsets are in units. What its searches need room
+    /// for is the scratch, which `into_scratch` gives back.
     ///
     /// ```rust
-    /// let mut searcher = regex.searcher_utf16(Scratch::new(alloc), &[0xD83D, 0xDE00]);
+    /// let mut searcher = Searcher::over_utf16(alloc, &compiled, Scratch::new(alloc), &[0xD83D, 0xDE00]);
     /// ```
-    pub fn searcher_utf16<'r, 't>(
-        &'r self,
+    pub fn over_utf16(
+        alloc: Global,
+        compiled: &'r Compiled,
         scratch: Scratch,
         units: &'t [u16],
-    ) -> Searcher<'r, Utf16Input<'r, 't>>
-        ensures of { IsSearcherOf self.now.compiled.unit_program utf16 units.now result }
+    ) -> Self
+        ensures { IsSearcherOf compiled.now.unit_program utf16 units.now result }
     {
-        let program = &self.compiled.unit_program;
+        let program = &compiled.unit_program;
         let input = Utf16Input::new(units, program.flags().is_unicode(), program.tables());
-        let executor = BacktrackExecutor::with_scratch(self.alloc, program, input, scratch);
+        let executor = BacktrackExecutor::with_scratch(alloc, program, input, scratch);
         Searcher { executor }
     }
+}
 
-    /// A searcher of 16-bit units that are each one character: `find_into` of it finds what `find_into_ucs2` does. Offsets are in units.
-    /// What its searches need room for is the scratch, which `into_scratch` gives back.
+impl<'r, 't> Searcher<'r, Ucs2Input<'r, 't>> {
+    ghost use Rattle.regress_programs.specs.Searchers.{IsSearcherOf};
+
+    /// A searcher of 16-bit units that are each one character. Offsets are in units. What its searches need room for is the scratch, which
+    /// `into_scratch` gives back.
     ///
     /// ```rust
-    /// let mut searcher = regex.searcher_ucs2(Scratch::new(alloc), &[0xD83D, 0xDE00]);
+    /// let mut searcher = Searcher::over_ucs2(alloc, &compiled, Scratch::new(alloc), &[0xD83D, 0xDE00]);
     /// ```
-    pub fn searcher_ucs2<'r, 't>(
-        &'r self,
+    pub fn over_ucs2(
+        alloc: Global,
+        compiled: &'r Compiled,
         scratch: Scratch,
         units: &'t [u16],
-    ) -> Searcher<'r, Ucs2Input<'r, 't>>
-        ensures of { IsSearcherOf self.now.compiled.unit_program ucs2 units.now result }
+    ) -> Self
+        ensures { IsSearcherOf compiled.now.unit_program ucs2 units.now result }
     {
-        let program = &self.compiled.unit_program;
+        let program = &compiled.unit_program;
         let input = Ucs2Input::new(units, program.flags().is_unicode(), program.tables());
-        let executor = BacktrackExecutor::with_scratch(self.alloc, program, input, scratch);
+        let executor = BacktrackExecutor::with_scratch(alloc, program, input, scratch);
         Searcher { executor }
     }
 }
