@@ -55,8 +55,15 @@ impl Regex {
     {
         let program = &self.compiled.byte_program;
         let input = Utf8Input::new(text, program.flags().is_unicode(), program.tables());
-        let alloc = self.alloc;
-        let found = find_into(alloc, scratch, program, input, Anchored::No, start, slots)?;
+        let found = find_into(
+            self.alloc,
+            scratch,
+            program,
+            input,
+            Anchored::No,
+            start,
+            slots,
+        )?;
         Ok(found)
     }
 
@@ -92,8 +99,15 @@ impl Regex {
     {
         let program = &self.compiled.byte_program;
         let input = Utf8Input::new(text, program.flags().is_unicode(), program.tables());
-        let alloc = self.alloc;
-        let found = find_into(alloc, scratch, program, input, Anchored::Yes, start, slots)?;
+        let found = find_into(
+            self.alloc,
+            scratch,
+            program,
+            input,
+            Anchored::Yes,
+            start,
+            slots,
+        )?;
         Ok(found)
     }
 
@@ -127,8 +141,15 @@ impl Regex {
     {
         let program = &self.compiled.unit_program;
         let input = Utf16Input::new(units, program.flags().is_unicode(), program.tables());
-        let alloc = self.alloc;
-        let found = find_into(alloc, scratch, program, input, Anchored::No, start, slots)?;
+        let found = find_into(
+            self.alloc,
+            scratch,
+            program,
+            input,
+            Anchored::No,
+            start,
+            slots,
+        )?;
         Ok(found)
     }
 
@@ -163,8 +184,15 @@ impl Regex {
     {
         let program = &self.compiled.unit_program;
         let input = Utf16Input::new(units, program.flags().is_unicode(), program.tables());
-        let alloc = self.alloc;
-        let found = find_into(alloc, scratch, program, input, Anchored::Yes, start, slots)?;
+        let found = find_into(
+            self.alloc,
+            scratch,
+            program,
+            input,
+            Anchored::Yes,
+            start,
+            slots,
+        )?;
         Ok(found)
     }
 
@@ -195,8 +223,15 @@ impl Regex {
     {
         let program = &self.compiled.unit_program;
         let input = Ucs2Input::new(units, program.flags().is_unicode(), program.tables());
-        let alloc = self.alloc;
-        let found = find_into(alloc, scratch, program, input, Anchored::No, start, slots)?;
+        let found = find_into(
+            self.alloc,
+            scratch,
+            program,
+            input,
+            Anchored::No,
+            start,
+            slots,
+        )?;
         Ok(found)
     }
 
@@ -228,8 +263,15 @@ impl Regex {
     {
         let program = &self.compiled.unit_program;
         let input = Ucs2Input::new(units, program.flags().is_unicode(), program.tables());
-        let alloc = self.alloc;
-        let found = find_into(alloc, scratch, program, input, Anchored::Yes, start, slots)?;
+        let found = find_into(
+            self.alloc,
+            scratch,
+            program,
+            input,
+            Anchored::Yes,
+            start,
+            slots,
+        )?;
         Ok(found)
     }
 }

@@ -2,8 +2,8 @@
 use Rattle.std.specs.Prelude.{◌≡◌, ◌↔◌, ◌⊎◌, ◌≤◌, IsTrue, ℕ, ℤ, Bool, true, false, negsuc, Result, Ok, Err, IfOk, IfErr, OnOk, OnErr, slice_get}
 use lib.Signed.{mag}
 use Rattle.std.proofs.Common.{◌∙◌, ◌<◌, w32, of_z, to_z, to_z-of_z, refl, sym, ap, subst, inl, inr, arith}
-use Rattle.regress_calls.specs.declared.call_error.CallError.{CallError}
-use Rattle.regress_calls.specs.declared.call_error.CallError.TheVariants.{OutOfMemory, WrongHandle, Null, NotUtf8, BadStart, NoRoom, Syntax, TooDeep, TooManyGroups, TooManyLoops, TooLarge, UnknownFlag, RepeatedFlag, BothUnicodeFlags, NoGroup, BrokenTables, SameHandle, PastLimit, TooManySteps}
+use Rattle.regress_call_errors.specs.declared.call_error.CallError.{CallError}
+use Rattle.regress_call_errors.specs.declared.call_error.CallError.TheVariants.{OutOfMemory, WrongHandle, Null, NotUtf8, BadStart, NoRoom, Syntax, TooDeep, TooManyGroups, TooManyLoops, TooLarge, UnknownFlag, RepeatedFlag, BothUnicodeFlags, NoGroup, BrokenTables, SameHandle, PastLimit, TooManySteps}
 use Rattle.regress_calls.specs.Codes.{HoldsOfError, IfCount, IfError, code_of, done_code, errors, number_of, truth_code}
 use Rattle.regress_calls.specs.declared.compiling.Refusal.{Refusal}
 use Rattle.regress_c.specs.Checked.{IsTruthOf}

@@ -1,8 +1,8 @@
 -- Texts that are copied, as a number answers.
 use Rattle.std.specs.Prelude.{◌≡◌, ℕ, ℤ, negsuc, List, Result, Ok, Err}
 use Rattle.std.proofs.Common.{refl, sym, subst}
-use Rattle.regress_calls.specs.declared.call_error.CallError.{CallError}
-use Rattle.regress_calls.specs.declared.call_error.CallError.TheVariants.{OutOfMemory, WrongHandle, Null, NotUtf8, BadStart, NoRoom, Syntax, TooDeep, TooManyGroups, TooManyLoops, TooLarge, UnknownFlag, RepeatedFlag, BothUnicodeFlags, NoGroup, BrokenTables, SameHandle, PastLimit, TooManySteps}
+use Rattle.regress_call_errors.specs.declared.call_error.CallError.{CallError}
+use Rattle.regress_call_errors.specs.declared.call_error.CallError.TheVariants.{OutOfMemory, WrongHandle, Null, NotUtf8, BadStart, NoRoom, Syntax, TooDeep, TooManyGroups, TooManyLoops, TooLarge, UnknownFlag, RepeatedFlag, BothUnicodeFlags, NoGroup, BrokenTables, SameHandle, PastLimit, TooManySteps}
 use Rattle.regress_calls.specs.Buffers.{IsCopied, IsCopiedIfMade}
 use Rattle.regress_calls.specs.Codes.{done_code, number_of}
 use Rattle.regress_c.specs.Copied.{IsCopiedBy, IsCopiedOrNot}

@@ -3,8 +3,8 @@ use Rattle.std.specs.Prelude.{◌≡◌, ℕ, ◌↔◌, ◌⊎◌, List}
 use Rattle.std.specs.Str.{IsUtf8}
 use Rattle.regress_engine_input.specs.Views.{utf8}
 use Rattle.regress_programs.specs.declared.slots.Anchored.{Anchored}
-use Rattle.regress_calls.specs.declared.call_error.CallError.{CallError}
-use Rattle.regress_calls.specs.declared.call_error.CallError.TheVariants.{NotUtf8}
+use Rattle.regress_call_errors.specs.declared.call_error.CallError.{CallError}
+use Rattle.regress_call_errors.specs.declared.call_error.CallError.TheVariants.{NotUtf8}
 use Rattle.regress_calls.specs.Handles.{Content}
 use Rattle.regress_calls.specs.Refusals.{MayRefuseSearch, MayRefuseMany}
 

@@ -1,8 +1,8 @@
 -- What exports that compile answer, and why they refuse.
 use Rattle.std.specs.Prelude.{◌≡◌, Bool, ℕ, ℤ, ◌⊎◌, List, Result, Ok, Err, pos, negsuc, chars}
 use Rattle.std.specs.Str.{IsUtf8}
-use Rattle.regress_calls.specs.declared.call_error.CallError.{CallError}
-use Rattle.regress_calls.specs.declared.call_error.CallError.TheVariants.{NotUtf8}
+use Rattle.regress_call_errors.specs.declared.call_error.CallError.{CallError}
+use Rattle.regress_call_errors.specs.declared.call_error.CallError.TheVariants.{NotUtf8}
 use Rattle.regress_calls.specs.declared.compiling.Refusal.{Refusal}
 use Rattle.regress_calls.specs.Codes.{number_of}
 use Rattle.regress_calls.specs.Compiling.{MayRefuseCompile}

@@ -1,8 +1,8 @@
 -- What exports that copy a text answer, and why they refuse.
 use Rattle.std.specs.Prelude.{◌≡◌, ℕ, ℤ, ◌⊎◌, List, Result, Ok, Err}
 use Rattle.std.specs.Str.{IsUtf8}
-use Rattle.regress_calls.specs.declared.call_error.CallError.{CallError}
-use Rattle.regress_calls.specs.declared.call_error.CallError.TheVariants.{NoRoom, NotUtf8}
+use Rattle.regress_call_errors.specs.declared.call_error.CallError.{CallError}
+use Rattle.regress_call_errors.specs.declared.call_error.CallError.TheVariants.{NoRoom, NotUtf8}
 use Rattle.regress_calls.specs.Buffers.{IsCopied}
 use Rattle.regress_calls.specs.Codes.{IfCount, IfError}
 use Rattle.regress_calls.specs.Handles.{Content}

@@ -11,7 +11,7 @@ ghost use Rattle.regress_replacing.specs.Substitution.{substitution};
 ghost use Rattle.regress.specs.declared.api.Regex.{Regex as RegexValue};
 ghost use Rattle.regress.specs.Linear.{is_linear};
 ghost use Rattle.regress.specs.Standing.{StandsFor, names_of_regex, source_of};
-ghost use Rattle.regress_calls.specs.declared.call_error.CallError.TheVariants.{NoRoom};
+ghost use Rattle.regress_call_errors.specs.declared.call_error.CallError.TheVariants.{NoRoom};
 ghost use Rattle.regress_calls.specs.Codes.{IfCount, IfError};
 ghost use Rattle.regress_calls.specs.Handles.{OfPattern, content};
 ghost use Rattle.regress_calls.specs.Learning.{HoldsSame};

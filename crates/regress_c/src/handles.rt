@@ -3,7 +3,7 @@ ghost use Rattle.std.specs.Prelude.{◌≡◌, ℕ, None, Option, pos};
 ghost use Rattle.regress_meaning.specs.TableParts.{TableParts as Parts, small_parts, table_of};
 ghost use Rattle.regress_unicode.specs.Unicode.{IsUnicode};
 ghost use Rattle.regress.specs.declared.api.Regex.{Regex as RegexValue};
-ghost use Rattle.regress_calls.specs.declared.call_error.CallError.TheVariants.{OutOfMemory};
+ghost use Rattle.regress_call_errors.specs.declared.call_error.CallError.TheVariants.{OutOfMemory};
 ghost use Rattle.regress_calls.specs.Codes.{IfCount, IfError};
 ghost use Rattle.regress_calls.specs.Handles.{HoldsShared, Nothing, OfPattern, OfSearch, OfTables, content};
 ghost use Rattle.regress_calls.specs.Refusals.{MayRefuseBound, MayRefuseMaking, MayRefuseCounted, MayRefuseSharing};

@@ -9,8 +9,8 @@ use Rattle.regress_front_tables.specs.declared.tables.Tables.{Tables}
 use Rattle.regress_front_tables.specs.TableViews.{parts, table}
 use Rattle.regress_errors.specs.declared.errors.CompileError.TheVariants as compiling
 use Rattle.regress.specs.declared.api.Regex.{Regex}
-use Rattle.regress_calls.specs.declared.call_error.CallError.{CallError}
-use Rattle.regress_calls.specs.declared.call_error.CallError.TheVariants.{OutOfMemory}
+use Rattle.regress_call_errors.specs.declared.call_error.CallError.{CallError}
+use Rattle.regress_call_errors.specs.declared.call_error.CallError.TheVariants.{OutOfMemory}
 use Rattle.regress_calls.specs.declared.compiling.Source.{Source}
 use Rattle.regress_calls.specs.Compiling.{IsCompiled, MayRefuseCompile, MayRefusePoints, is_whole, points_of_source, of_pattern}
 use Rattle.regress_calls.specs.Handles.{Content, OfTables}

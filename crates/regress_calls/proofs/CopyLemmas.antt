@@ -2,8 +2,8 @@
 use Rattle.std.specs.Prelude.{◌≡◌, ℕ, zero, suc, ◌-◌, List, Some, slice_get, Result, Ok, Err}
 use Rattle.std.proofs.Common.{subst, sub-one}
 use Rattle.regress.specs.declared.api.Regex.{Regex}
-use Rattle.regress_calls.specs.declared.call_error.CallError.{CallError}
-use Rattle.regress_calls.specs.declared.call_error.CallError.TheVariants.{NoRoom}
+use Rattle.regress_call_errors.specs.declared.call_error.CallError.{CallError}
+use Rattle.regress_call_errors.specs.declared.call_error.CallError.TheVariants.{NoRoom}
 use Rattle.regress_calls.specs.Buffers.{IsCopied, IsCopiedIfMade}
 use Rattle.regress_calls.specs.Handles.{OfPattern}
 use Rattle.regress_calls.specs.Names.{IsNumbered}

@@ -12,8 +12,8 @@ use Rattle.regress_errors.specs.declared.errors.CompileError.{CompileError}
 use Rattle.regress.specs.declared.api.Regex.{Regex}
 use Rattle.regress_pattern_units.specs.PatternUnits.{pattern_points}
 use Rattle.regress.specs.Limited.{MayRefuseWithin, StandsWithin}
-use Rattle.regress_calls.specs.declared.call_error.CallError.{CallError}
-use Rattle.regress_calls.specs.declared.call_error.CallError.TheVariants.{NotUtf8}
+use Rattle.regress_call_errors.specs.declared.call_error.CallError.{CallError}
+use Rattle.regress_call_errors.specs.declared.call_error.CallError.TheVariants.{NotUtf8}
 use Rattle.regress_calls.specs.declared.compiling.Source.{Source}
 use Rattle.regress_calls.specs.declared.compiling.Source.TheVariants.{Utf8, Units, Whole}
 use Rattle.regress_calls.specs.Codes.{of_compile_error, of_flag_error}

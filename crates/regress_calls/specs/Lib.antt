@@ -1,4 +1,4 @@
-pub mod Codes
+pub use Rattle.regress_call_errors.specs.Codes
 pub mod Ranges
 pub mod Slotted
 pub mod Buffers

@@ -8,8 +8,8 @@ use Rattle.regress_front_tables.specs.declared.tables.law.TableError.{TableError
 use Rattle.regress_unicode.specs.Unicode.{IsRefusal}
 use Rattle.regress.specs.declared.api.Regex.{Regex}
 use Rattle.regress.specs.Standing.{names_of_regex}
-use Rattle.regress_calls.specs.declared.call_error.CallError.{CallError}
-use Rattle.regress_calls.specs.declared.call_error.CallError.TheVariants.{OutOfMemory, WrongHandle, BadStart, NoRoom, NoGroup, TooManyGroups, TooManySteps}
+use Rattle.regress_call_errors.specs.declared.call_error.CallError.{CallError}
+use Rattle.regress_call_errors.specs.declared.call_error.CallError.TheVariants.{OutOfMemory, WrongHandle, BadStart, NoRoom, NoGroup, TooManyGroups, TooManySteps}
 use Rattle.regress_calls.specs.Codes.{of_table_error}
 use Rattle.regress_calls.specs.Handles.{Content, OfTables, OfPattern, OfSearch}
 use Rattle.regress_calls.specs.Stopping.{IsStopped}

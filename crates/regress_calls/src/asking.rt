@@ -19,12 +19,12 @@ ghost use Rattle.regress_calls.specs.Refusals.{MayRefuseCopy, MayRefuseCopyOf, M
 ghost use Rattle.regress_calls.specs.Stopping.{IsEnough};
 
 use crate::buffer::copy_text;
-use crate::call_error::{CallError, text_of_code};
 use crate::numbers::write_numbers;
 use crate::search::MAX_RANGES;
 use crate::sharing::{learned_in, pattern_in};
 use crate::slot::Slot;
 use regress::ReplacementSyntax;
+use regress_call_errors::{CallError, text_of_code};
 use std::alloc::Global;
 
 /// How many capturing groups the pattern has that a handle holds. Refused with `TooManyGroups` only where a pattern had more than

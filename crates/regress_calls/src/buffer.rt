@@ -2,7 +2,7 @@
 ghost use Rattle.std.specs.Prelude.{◌≡◌, ◌<◌, ◌≤◌, length};
 ghost use Rattle.regress_calls.specs.Buffers.{IsCopied};
 
-use crate::call_error::CallError;
+use regress_call_errors::CallError;
 
 /// Copies a text to a buffer where there is room for it, with a null byte behind it where there is room for that too, and tells
 /// how many bytes the text has. Where there is less room, the buffer stays as it was.

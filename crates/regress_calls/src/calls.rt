@@ -16,11 +16,11 @@ ghost use Rattle.regress_calls.specs.Refusals.{MayRefuseBound, MayRefuseMany, Ma
 ghost use Rattle.regress_calls.specs.Stopping.{bound_of};
 ghost use Rattle.regress_calls.specs.Texts.{reading_of_text, kind_of_text, units_of_text, IsOfItsKind, StandsIn};
 
-use crate::call_error::CallError;
 use crate::held::Held;
 use crate::slot::Slot;
 use crate::text::Text;
 use crate::text_range::TextRange;
+use regress_call_errors::CallError;
 use std::alloc::Global;
 
 /// Frees what a handle holds, if it holds anything.

@@ -10,7 +10,6 @@ ghost use Rattle.regress_calls.specs.Codes.{of_compile_error};
 ghost use Rattle.regress_calls.specs.Compiling.{IsCompiled, MayRefuseFlags, MayRefuseCompile, MayRefusePoints, is_whole, meant, points_of_source};
 ghost use Rattle.regress_calls.specs.Handles.{OfPattern, OfTables, content};
 
-use crate::call_error::CallError;
 use crate::held::Held;
 use crate::sharing::tables_in;
 use crate::slot::Slot;
@@ -18,6 +17,7 @@ use crate::text::utf8;
 use regress::{
     CompileError, Error, FlagError, Flags, Regex, Tables, syntax_error, syntax_error_in_units,
 };
+use regress_call_errors::CallError;
 use std::alloc::{AllocError, Global};
 use std::sync::Arc;
 

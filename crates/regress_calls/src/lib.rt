@@ -3,7 +3,6 @@
 
 mod asking;
 mod buffer;
-mod call_error;
 mod calls;
 mod compiling;
 mod finding;
@@ -22,12 +21,12 @@ pub use asking::{
     pattern_text, replace, replace_all,
 };
 pub use buffer::copy_text;
-pub use call_error::{CallError, text_of_code};
 pub use calls::{find, find_many, free, is_match, match_at, set_max_steps};
 pub use compiling::{Refusal, Source, compile};
 pub use held::Held;
 pub use making::{put_search, put_small_tables, put_unicode_tables, share};
 pub use regress::DEFAULT_LIMIT;
+pub use regress_call_errors::{CallError, text_of_code};
 pub use search::Search;
 pub use slot::Slot;
 pub use text::{Text, utf8};

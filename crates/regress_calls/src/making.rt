@@ -8,12 +8,12 @@ ghost use Rattle.regress.specs.declared.api.Regex.{Regex as RegexValue};
 ghost use Rattle.regress_calls.specs.Handles.{OfPattern, OfSearch, OfTables, HoldsShared, content};
 ghost use Rattle.regress_calls.specs.Refusals.{MayRefuseMaking, MayRefuseCounted, MayRefuseSharing};
 
-use crate::call_error::CallError;
 use crate::held::Held;
 use crate::search::Search;
 use crate::sharing::pattern_in;
 use crate::slot::Slot;
 use regress::{Regex, Tables};
+use regress_call_errors::CallError;
 use regress_unicode::unicode_tables;
 use std::alloc::Global;
 use std::sync::Arc;

@@ -3,12 +3,12 @@ ghost use Rattle.std.specs.Prelude.{◌≡◌, ◌+◌, ◌<◌, ◌≤◌, leng
 ghost use Rattle.std.specs.Arc.{arc_value};
 ghost use Rattle.regress.specs.Standing.{names_of_regex};
 
-use crate::call_error::CallError;
 use crate::finding::{find_into, match_into};
 use crate::many::many_in;
 use crate::text::Text;
 use crate::text_range::{TextRange, show};
 use regress::{Range, Regex, Scratch, SearchError};
+use regress_call_errors::CallError;
 use std::alloc::Global;
 use std::mem;
 use std::sync::Arc;

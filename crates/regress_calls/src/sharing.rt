@@ -6,10 +6,10 @@ ghost use Rattle.regress_calls.specs.Handles.{OfPattern, OfTables, content};
 ghost use Rattle.regress_calls.specs.Learning.{HoldsSame};
 ghost use Rattle.regress_calls.specs.Refusals.{MayRefusePattern, MayRefuseTables};
 
-use crate::call_error::CallError;
 use crate::held::Held;
 use crate::slot::Slot;
 use regress::{Regex, Tables};
+use regress_call_errors::CallError;
 use std::alloc::Global;
 use std::sync::Arc;
 

@@ -6,8 +6,8 @@ ghost use Rattle.regress_meaning.specs.Matches.{Item, next_place};
 ghost use Rattle.regress_meaning.specs.Offsets.{Begins, characters, of_ucs2, of_utf8, of_utf16, offset};
 ghost use Rattle.regress_calls.specs.Texts.{EndsAtStart, IsRangeOf, reading_of_text};
 
-use crate::call_error::CallError;
 use regress::{Range, is_start, is_unit_start};
+use regress_call_errors::CallError;
 
 /// A text to be searched, of one of four kinds.
 #[derive(Clone, Copy, Debug)]

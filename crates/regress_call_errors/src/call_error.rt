@@ -50,7 +50,7 @@ pub enum CallError {
 
 impl CallError {
     ghost use Rattle.std.specs.Prelude.{Err, negsuc, pos};
-    ghost use Rattle.regress_calls.specs.Codes.{number_of};
+    ghost use Rattle.regress_call_errors.specs.Codes.{number_of};
 
     /// Its number in the header.
     ///
@@ -150,7 +150,7 @@ impl fmt::Display for CallError {
 }
 
 impl From<Error> for CallError {
-    ghost use Rattle.regress_calls.specs.Codes.{of_error};
+    ghost use Rattle.regress_call_errors.specs.Codes.{of_error};
 
     ghost from_gives = { λ refused e. e ≡ of_error refused };
 
@@ -167,7 +167,7 @@ impl From<Error> for CallError {
 }
 
 impl From<FlagError> for CallError {
-    ghost use Rattle.regress_calls.specs.Codes.{of_flag_error};
+    ghost use Rattle.regress_call_errors.specs.Codes.{of_flag_error};
 
     ghost from_gives = { λ refused e. e ≡ of_flag_error refused };
 
@@ -181,7 +181,7 @@ impl From<FlagError> for CallError {
 }
 
 impl From<TableError> for CallError {
-    ghost use Rattle.regress_calls.specs.Codes.{of_table_error};
+    ghost use Rattle.regress_call_errors.specs.Codes.{of_table_error};
 
     ghost from_gives = { λ refused e. e ≡ of_table_error refused };
 
@@ -194,7 +194,7 @@ impl From<TableError> for CallError {
 }
 
 impl From<CompileError> for CallError {
-    ghost use Rattle.regress_calls.specs.Codes.{of_compile_error};
+    ghost use Rattle.regress_call_errors.specs.Codes.{of_compile_error};
 
     ghost from_gives = { λ refused e. e ≡ of_compile_error refused };
 
@@ -209,7 +209,7 @@ impl From<CompileError> for CallError {
 }
 
 impl From<SearchError> for CallError {
-    ghost use Rattle.regress_calls.specs.Codes.{of_search_error};
+    ghost use Rattle.regress_call_errors.specs.Codes.{of_search_error};
 
     ghost from_gives = { λ refused e. e ≡ of_search_error refused };
 
@@ -222,7 +222,7 @@ impl From<SearchError> for CallError {
 }
 
 impl From<AllocError> for CallError {
-    ghost use Rattle.regress_calls.specs.declared.call_error.CallError.TheVariants.{OutOfMemory};
+    ghost use Rattle.regress_call_errors.specs.declared.call_error.CallError.TheVariants.{OutOfMemory};
 
     ghost from_gives = { λ _ e. e ≡ OutOfMemory };
 
@@ -232,7 +232,7 @@ impl From<AllocError> for CallError {
 }
 
 impl<T: Drop> From<AllocFailed<T>> for CallError {
-    ghost use Rattle.regress_calls.specs.declared.call_error.CallError.TheVariants.{OutOfMemory};
+    ghost use Rattle.regress_call_errors.specs.declared.call_error.CallError.TheVariants.{OutOfMemory};
 
     ghost from_gives = { λ _ e. e ≡ OutOfMemory };
 
