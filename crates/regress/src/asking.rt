@@ -12,7 +12,6 @@ ghost use Rattle.regress_programs.specs.Tables.{byte_table_of, unit_table_of};
 ghost use Rattle.regress.specs.Standing.{StandsFor, StandsInUnits, HasTree, byte_target, unit_target, tree_list, source_of, names_of_regex};
 
 use crate::api::Regex;
-use crate::text::shared;
 use regress_engine_prefix::{Landmark, StartPredicate};
 use regress_front::{CaptureGroupName, Error};
 use regress_programs::Compiled;
@@ -148,7 +147,10 @@ impl Regex {
         ensures linear { IfOk result (λ r. (byte_table_of r.compiled ≡ byte_table_of self.now.compiled) × (unit_table_of r.compiled ≡ unit_table_of self.now.compiled)) }
         ensures refused { IsOkUnless result Error.OutOfMemory }
     {
-        let source = shared(&self.source)?;
+        let source = match &self.source {
+            Some(text) => Some(text.clone()?),
+            None => None,
+        };
         let compiled = self.compiled.try_clone(self.alloc)?;
         Ok(Regex {
             alloc: self.alloc,

@@ -14,7 +14,6 @@ mod replacing;
 mod slots;
 mod splitting;
 mod sticky;
-mod text;
 mod units;
 mod whole;
 mod within;

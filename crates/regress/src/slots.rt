@@ -55,15 +55,8 @@ impl Regex {
     {
         let program = &self.compiled.byte_program;
         let input = Utf8Input::new(text, program.flags().is_unicode(), program.tables());
-        let found = find_into(
-            self.alloc,
-            scratch,
-            program,
-            input,
-            Anchored::No,
-            start,
-            slots,
-        )?;
+        let alloc = self.alloc;
+        let found = find_into(alloc, scratch, program, input, Anchored::No, start, slots)?;
         Ok(found)
     }
 
@@ -99,15 +92,8 @@ impl Regex {
     {
         let program = &self.compiled.byte_program;
         let input = Utf8Input::new(text, program.flags().is_unicode(), program.tables());
-        let found = find_into(
-            self.alloc,
-            scratch,
-            program,
-            input,
-            Anchored::Yes,
-            start,
-            slots,
-        )?;
+        let alloc = self.alloc;
+        let found = find_into(alloc, scratch, program, input, Anchored::Yes, start, slots)?;
         Ok(found)
     }
 
@@ -141,15 +127,8 @@ impl Regex {
     {
         let program = &self.compiled.unit_program;
         let input = Utf16Input::new(units, program.flags().is_unicode(), program.tables());
-        let found = find_into(
-            self.alloc,
-            scratch,
-            program,
-            input,
-            Anchored::No,
-            start,
-            slots,
-        )?;
+        let alloc = self.alloc;
+        let found = find_into(alloc, scratch, program, input, Anchored::No, start, slots)?;
         Ok(found)
     }
 
@@ -184,15 +163,8 @@ impl Regex {
     {
         let program = &self.compiled.unit_program;
         let input = Utf16Input::new(units, program.flags().is_unicode(), program.tables());
-        let found = find_into(
-            self.alloc,
-            scratch,
-            program,
-            input,
-            Anchored::Yes,
-            start,
-            slots,
-        )?;
+        let alloc = self.alloc;
+        let found = find_into(alloc, scratch, program, input, Anchored::Yes, start, slots)?;
         Ok(found)
     }
 
@@ -223,15 +195,8 @@ impl Regex {
     {
         let program = &self.compiled.unit_program;
         let input = Ucs2Input::new(units, program.flags().is_unicode(), program.tables());
-        let found = find_into(
-            self.alloc,
-            scratch,
-            program,
-            input,
-            Anchored::No,
-            start,
-            slots,
-        )?;
+        let alloc = self.alloc;
+        let found = find_into(alloc, scratch, program, input, Anchored::No, start, slots)?;
         Ok(found)
     }
 
@@ -263,15 +228,8 @@ impl Regex {
     {
         let program = &self.compiled.unit_program;
         let input = Ucs2Input::new(units, program.flags().is_unicode(), program.tables());
-        let found = find_into(
-            self.alloc,
-            scratch,
-            program,
-            input,
-            Anchored::Yes,
-            start,
-            slots,
-        )?;
+        let alloc = self.alloc;
+        let found = find_into(alloc, scratch, program, input, Anchored::Yes, start, slots)?;
         Ok(found)
     }
 }
