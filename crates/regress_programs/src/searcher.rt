@@ -67,6 +67,7 @@ impl<'r, Input: ExecutorInput> Searcher<'r, Input> {
     /// The room that its searches leave to others.
     ///
     /// ```rust
+    /// let searcher = Searcher::over_utf8(alloc, &compiled, Scratch::new(alloc), "xaab");
     /// let scratch = searcher.into_scratch();
     /// ```
     pub fn into_scratch(self) -> Scratch {
