@@ -28,7 +28,6 @@ impl<'a, Input: ExecutorInput> Attempt<'a, Input> {
     }
 
     /// Does a one-character loop: goes on at one of its ways, and later at the others. It answers whether there is any.
-    #[inline(always)]
     pub(crate) fn repeat(
         &self,
         least: usize,

@@ -250,12 +250,10 @@ impl<'a, Input: ExecutorInput> Attempt<'a, Input> {
                 begin_atomic(*start_group, *end_group, target, memory, spot)?;
                 Ok(Some(true))
             }
-            Insn::BackRef { group, .. } => {
-                self.count_reference(*group as usize, memory, counts);
-                let going = self.take(insn, memory, spot);
-                Ok(Some(going))
-            }
             _ => {
+                if let Insn::BackRef { group, .. } = insn {
+                    self.count_reference(*group as usize, memory, counts);
+                }
                 let going = self.take(insn, memory, spot);
                 Ok(Some(going))
             }
