@@ -80,7 +80,7 @@ pub fn word_beside<Input: CharInput>(
 /// ```rust
 /// let edge = boundary(&input, false, 0);
 /// ```
-#[inline(always)]
+#[inline]
 pub fn boundary<Input: CharInput>(input: &Input, folded: bool, offset: usize) -> bool
     requires { CanRead (Input.view input.now) offset }
     ensures { result ≡ at_boundary (input_of (Input.view input.now)) folded offset }
