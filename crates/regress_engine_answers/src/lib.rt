@@ -3,8 +3,10 @@
 
 mod answers;
 mod filling;
+mod places;
 mod searching;
 mod walking;
 
 pub use answers::{Answering, Answers};
+pub use places::next_place;
 pub use searching::TextTable;

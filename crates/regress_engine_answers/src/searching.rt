@@ -10,6 +10,7 @@ ghost use Rattle.regress_engine_linear.specs.LinearViews.{flow_in, heights_in};
 ghost use Rattle.regress_engine_answers.specs.Searched.{IsTold, StepsTo, from_start};
 
 use crate::answers::{Answering, Answers};
+use crate::places::next_place;
 use regress_engine_advance::beside;
 use regress_engine_linear::LinearTable;
 use regress_engine_search::{ExecutorInput, SearchContext};
@@ -121,7 +122,7 @@ impl TextTable {
     {
         let mut from = offset;
         'places: loop {
-            let Some(start) = context.next_start(from) else {
+            let Some(start) = next_place(context, from) else {
                 return Ok(None);
             };
             if let Some(end) = self.run_from(table, context, start, groups, steps)? {

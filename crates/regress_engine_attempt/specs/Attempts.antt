@@ -1,5 +1,5 @@
 -- What an attempt and a search are of, and what is remembered in them.
-use Rattle.std.specs.Prelude.{IfSome}
+use Rattle.std.specs.Prelude.{Bool, IfSome}
 use Rattle.regress_engine_input.specs.Views.{View}
 use Rattle.regress_engine_code.specs.Standing.{program_of}
 use Rattle.regress_engine_code.specs.declared.compiled.CompiledRegex.{CompiledRegex}
@@ -24,3 +24,7 @@ searched view c = world_of c.program.now (view c.input)
 -- what is remembered, if anything, is a world's
 abbrev pub Remembers : World → Remembered → Type 0
 Remembers w m = IfSome m.failures (λ f. AreOf w f.value)
+
+-- more was undone and passed over than normal searches do
+abbrev pub has_begun : Remembered → Bool
+has_begun m = m.is_begun

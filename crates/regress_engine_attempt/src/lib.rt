@@ -14,4 +14,4 @@ mod turns;
 mod ways;
 
 pub use attempt::Attempt;
-pub use remembered::Remembered;
+pub use remembered::{MOST_REMEMBERED, Remembered};

@@ -7,7 +7,7 @@ ghost use Rattle.regress_engine_memory.specs.TableViews.{needs_of};
 ghost use Rattle.regress_engine_runs.specs.Runs.{room};
 ghost use Rattle.regress_engine_search.specs.Search.{Suits};
 ghost use Rattle.regress_engine_undo.specs.Held.{held, undo_of, pushed};
-ghost use Rattle.regress_engine_attempt.specs.Attempts.{Remembers, world};
+ghost use Rattle.regress_engine_attempt.specs.Attempts.{Remembers, has_begun, world};
 ghost use Rattle.regress_engine_trying.specs.Passing.{MayUndoMore, Passes, PassesIf};
 ghost use Rattle.regress_engine_trying.specs.Remembering.{AreOf, Begins, Drops, IsUnderWay, MayUndo};
 ghost use Rattle.regress_engine_trying.specs.Trying.{IsHeldIn, Steps, World};
@@ -22,8 +22,11 @@ use regress_engine_undo::{Memory, Spot, Undo};
 use regress_front_core::GroupData;
 use std::alloc::{AllocError, Global};
 
-/// What is known to fail takes at most so many blocks of 32 bytes: 64 MB.
-const MOST_BLOCKS: usize = 1 << 21;
+/// What a search remembers of failures takes at most so many bytes: 64 MB. What would take more is not remembered.
+pub const MOST_REMEMBERED: usize = 1 << 26;
+
+/// The same in blocks of 32 bytes.
+const MOST_BLOCKS: usize = MOST_REMEMBERED / 32;
 
 /// What is remembered of failures in one text, of one program.
 #[derive(Debug, Drop)]
@@ -55,6 +58,20 @@ impl Remembered {
             is_begun: false,
             failures: None,
         }
+    }
+
+    /// Whether more was undone and passed over than normal searches do, so that failures are kept, if there is memory for them.
+    ///
+    /// ```rust
+    /// if remembered.has_begun() {
+    ///     return Some(offset);
+    /// }
+    /// ```
+    #[inline]
+    pub fn has_begun(&self) -> bool
+        ensures { result ≡ has_begun self.now }
+    {
+        self.is_begun
     }
 }
 

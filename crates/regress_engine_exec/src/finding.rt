@@ -5,6 +5,8 @@ ghost use Rattle.regress_engine_input.specs.Views.{input_of, reading_of};
 ghost use Rattle.regress_engine_runs.specs.Meets.{IsAtPlace};
 ghost use Rattle.regress_engine_search.specs.Answering.{IsAnswer, IsFound};
 ghost use Rattle.regress_engine_search.specs.Ending.{IfEnded, IfStopped};
+ghost use Rattle.regress_engine_search.specs.Skipping.{IsNextStart};
+ghost use Rattle.regress_engine_leading.specs.Known.{IsKnown};
 ghost use Rattle.regress_engine_attempt.specs.Attempts.{Remembers, searched};
 ghost use Rattle.regress_engine_attempt.specs.Counting.{CountsRun};
 ghost use Rattle.regress_engine_exec.specs.Counting.{CountsSearch};
@@ -12,10 +14,46 @@ ghost use Rattle.regress_engine_exec.specs.Searches.{groups_of};
 
 use crate::scratch::Scratch;
 use regress_engine_advance::beside;
+use regress_engine_answers::next_place;
 use regress_engine_attempt::{Attempt, Remembered};
 use regress_engine_leading::{Beginning, known_at};
 use regress_engine_search::{Budget, Ended, ExecutorInput, SearchContext};
 use std::alloc::AllocError;
+
+/// The place from which a search goes on from an offset. Once failures are kept runs may end at once, so that nothing is passed any
+/// more that runs from there would pass too.
+#[inline(always)]
+fn start_from<Input: ExecutorInput>(
+    context: &SearchContext<'_, Input>,
+    remembered: &Remembered,
+    offset: usize,
+) -> Option<usize>
+    requires place { IsAtPlace (reading_of (Input.view context.now.input)) offset }
+    ensures start { IsNextStart (program_of context.now.program.now) (Input.view context.now.input) offset result }
+{
+    if remembered.has_begun() {
+        next_place(context, offset)
+    } else {
+        context.next_start(offset)
+    }
+}
+
+/// What is known of a place before a run begins there. Once failures are kept nothing is looked for.
+#[inline(always)]
+fn known_of<Input: ExecutorInput>(
+    context: &SearchContext<'_, Input>,
+    remembered: &Remembered,
+    start: usize,
+) -> Beginning
+    requires place { IsAtPlace (reading_of (Input.view context.now.input)) start }
+    ensures known { IsKnown (program_of context.now.program.now) (Input.view context.now.input) start result }
+{
+    if remembered.has_begun() {
+        Beginning::At(0)
+    } else {
+        known_at(context.program, &context.input, start)
+    }
+}
 
 /// Searches from an offset on, where the text goes on as the program's start predicate says. It answers the offset from which the
 /// first run has an answer, and where that ends; the scratch has the answer's groups. Or it answers that no more steps may be counted.
@@ -36,10 +74,10 @@ pub(crate) fn first_from<Input: ExecutorInput, B: Budget>(
 {
     let mut from = offset;
     'places: loop {
-        let Some(start) = context.next_start(from) else {
+        let Some(start) = start_from(context, remembered, from) else {
             return Ok(Ended::With(None));
         };
-        let first = match known_at(context.program, &context.input, start) {
+        let first = match known_of(context, remembered, start) {
             Beginning::Passed(past) => {
                 from = past;
                 continue;

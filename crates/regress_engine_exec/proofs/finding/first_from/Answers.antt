@@ -22,7 +22,7 @@ invariant_of-attempt g c =
     let context = c.args.context.now in
     let program = program_of context.program.now in
     let v = g.Input.InputIndexer.view context.input in
-    let there : Reaches program v c.places.from c.in-Some.start = subst (IsNextStart program v c.places.from) c.in-Some.is c.next_start.ensures.start in
+    let there : Reaches program v c.places.from c.in-Some.start = subst (IsNextStart program v c.places.from) c.in-Some.is c.start_from.ensures.start in
     record { ends = context.searchable.ends c.in-Some.start (subst (λ x. IsAtPlace (reading_of x) c.in-Some.start) (sym (g.met.Input.ExecutorInput.shows context.input)) there.place) }
 
 pub run_within-requires-clause-reads : goal.run_within-requires-clause-reads
@@ -31,7 +31,7 @@ run_within-requires-clause-reads g c =
     let program = program_of context.program.now in
     let v = g.Input.InputIndexer.view context.input in
     let searchable = subst (IsSearchable program) (g.met.Input.ExecutorInput.shows context.input) context.searchable in
-    let there : Reaches program v c.places.from c.in-Some.start = subst (IsNextStart program v c.places.from) c.in-Some.is c.next_start.ensures.start in
+    let there : Reaches program v c.places.from c.in-Some.start = subst (IsNextStart program v c.places.from) c.in-Some.is c.start_from.ensures.start in
     searchable.reads c.in-Some.start there.place
 
 pub run_within-requires-clause-suits : goal.run_within-requires-clause-suits
@@ -44,14 +44,14 @@ pub run_within-requires-clause-begun : goal.run_within-requires-clause-begun
 run_within-requires-clause-begun g c =
     let context = c.args.context.now in
     way-comes (program_of context.program.now) (input_of (g.Input.InputIndexer.view context.input)) c.in-Some.start c.in-At.first
-    (subst (IsKnown (program_of context.program.now) (g.Input.InputIndexer.view context.input) c.in-Some.start) c.in-At.is c.known_at.ensures)
+    (subst (IsKnown (program_of context.program.now) (g.Input.InputIndexer.view context.input) c.in-Some.start) c.in-At.is c.known_of.ensures)
 
 pub returns-in_default-clause-found : goal.returns-in_default-clause-found
 returns-in_default-clause-found g c =
     let context = c.args.context.now in
     let program = program_of context.program.now in
     let v = g.Input.InputIndexer.view context.input in
-    subst (IsNextStart program v c.places.from) c.in_default.is c.next_start.ensures.start c.args.offset c.places.invariant.finds
+    subst (IsNextStart program v c.places.from) c.in_default.is c.start_from.ensures.start c.args.offset c.places.invariant.finds
 
 pub returns-in-Some-found-clause-found : goal.returns-in-Some-found-clause-found
 returns-in-Some-found-clause-found g c =
@@ -59,7 +59,7 @@ returns-in-Some-found-clause-found g c =
     let program = program_of context.program.now in
     let v = g.Input.InputIndexer.view context.input in
     let all = g.met.Input.InputIndexer.are_of_kind context.input in
-    let there : Reaches program v c.places.from c.in-Some.start = subst (IsNextStart program v c.places.from) c.in-Some.is c.next_start.ensures.start in
+    let there : Reaches program v c.places.from c.in-Some.start = subst (IsNextStart program v c.places.from) c.in-Some.is c.start_from.ensures.start in
     search-found program v all c.args.offset c.in-Some.start c.in-Some-found.end (held c.run_within.new.memory).groups (there.on c.args.offset c.places.invariant.finds)
     (subst (λ x. IsAnswer program (input_of v) c.in-Some.start x (held c.run_within.new.memory).groups) c.in-Some-found.is
     (subst (λ e. IfEnded e (λ x. IsAnswer program (input_of v) c.in-Some.start x (held c.run_within.new.memory).groups)) c.in-With.is c.in_ok-found.ensures.answer))
@@ -70,7 +70,7 @@ beside-requires g c =
     let program = program_of context.program.now in
     let v = g.Input.InputIndexer.view context.input in
     let all = g.met.Input.InputIndexer.are_of_kind context.input in
-    let there : Reaches program v c.places.from c.in-Some.start = subst (IsNextStart program v c.places.from) c.in-Some.is c.next_start.ensures.start in
+    let there : Reaches program v c.places.from c.in-Some.start = subst (IsNextStart program v c.places.from) c.in-Some.is c.start_from.ensures.start in
     can-read v all c.in-Some.start there.place
 
 pub returns-in_default-beside-clause-found : goal.returns-in_default-beside-clause-found
@@ -79,7 +79,7 @@ returns-in_default-beside-clause-found g c =
     let program = program_of context.program.now in
     let v = g.Input.InputIndexer.view context.input in
     let all = g.met.Input.InputIndexer.are_of_kind context.input in
-    let there : Reaches program v c.places.from c.in-Some.start = subst (IsNextStart program v c.places.from) c.in-Some.is c.next_start.ensures.start in
+    let there : Reaches program v c.places.from c.in-Some.start = subst (IsNextStart program v c.places.from) c.in-Some.is c.start_from.ensures.start in
     search-none program v all c.args.offset c.in-Some.start (held c.run_within.new.memory).groups (there.on c.args.offset c.places.invariant.finds)
     (subst (λ x. IsAnswer program (input_of v) c.in-Some.start x (held c.run_within.new.memory).groups) c.in_default-found.is
     (subst (λ e. IfEnded e (λ x. IsAnswer program (input_of v) c.in-Some.start x (held c.run_within.new.memory).groups)) c.in-With.is c.in_ok-found.ensures.answer)) (sym c.in_default-beside.ensures)
@@ -90,7 +90,7 @@ places-smaller g c =
     let program = program_of context.program.now in
     let v = g.Input.InputIndexer.view context.input in
     let all = g.met.Input.InputIndexer.are_of_kind context.input in
-    let there : Reaches program v c.places.from c.in-Some.start = subst (IsNextStart program v c.places.from) c.in-Some.is c.next_start.ensures.start in
+    let there : Reaches program v c.places.from c.in-Some.start = subst (IsNextStart program v c.places.from) c.in-Some.is c.start_from.ensures.start in
     let less = search-less program v all c.in-Some.start _ c.in-Some-beside.behind there.place (sym c.in-Some-beside.ensures) in
     let low = there.low in
     omega (arith, low, less)
@@ -102,7 +102,7 @@ places-preserved g c =
     let v = g.Input.InputIndexer.view context.input in
     let all = g.met.Input.InputIndexer.are_of_kind context.input in
     let searchable = subst (IsSearchable program) (g.met.Input.ExecutorInput.shows context.input) context.searchable in
-    let there : Reaches program v c.places.from c.in-Some.start = subst (IsNextStart program v c.places.from) c.in-Some.is c.next_start.ensures.start in
+    let there : Reaches program v c.places.from c.in-Some.start = subst (IsNextStart program v c.places.from) c.in-Some.is c.start_from.ensures.start in
     let here = counts-past program v searchable all c.args.offset c.places.from c.in-Some.start _ _ c.places.invariant.place there.place there.low there.on c.places.invariant.counted in
     let answer = subst (λ x. IsAnswer program (input_of v) c.in-Some.start x (held c.run_within.new.memory).groups) c.in_default-found.is
     (subst (λ e. IfEnded e (λ x. IsAnswer program (input_of v) c.in-Some.start x (held c.run_within.new.memory).groups)) c.in-With.is c.in_ok-found.ensures.answer) in
@@ -115,12 +115,12 @@ places-preserved g c =
       so = c.in_ok-found.ensures.so;
     }
 
-pub known_at-requires-clause-place : goal.known_at-requires-clause-place
-known_at-requires-clause-place g c =
+pub known_of-requires : goal.known_of-requires
+known_of-requires g c =
     let context = c.args.context.now in
     let program = program_of context.program.now in
     let v = g.Input.InputIndexer.view context.input in
-    let there : Reaches program v c.places.from c.in-Some.start = subst (IsNextStart program v c.places.from) c.in-Some.is c.next_start.ensures.start in
+    let there : Reaches program v c.places.from c.in-Some.start = subst (IsNextStart program v c.places.from) c.in-Some.is c.start_from.ensures.start in
     there.place
 
 pub places-smaller-in-Passed : goal.places-smaller-in-Passed
@@ -129,8 +129,8 @@ places-smaller-in-Passed g c =
     let program = program_of context.program.now in
     let v = g.Input.InputIndexer.view context.input in
     let all = g.met.Input.InputIndexer.are_of_kind context.input in
-    let there : Reaches program v c.places.from c.in-Some.start = subst (IsNextStart program v c.places.from) c.in-Some.is c.next_start.ensures.start in
-    let passes : PassesOver program v c.in-Some.start c.in-Passed.past = subst (IsKnown program v c.in-Some.start) c.in-Passed.is c.known_at.ensures in
+    let there : Reaches program v c.places.from c.in-Some.start = subst (IsNextStart program v c.places.from) c.in-Some.is c.start_from.ensures.start in
+    let passes : PassesOver program v c.in-Some.start c.in-Passed.past = subst (IsKnown program v c.in-Some.start) c.in-Passed.is c.known_of.ensures in
     let low = there.low in
     let further = passes.further in
     let inside = place-lies v all c.in-Passed.past passes.place in
@@ -143,9 +143,9 @@ places-preserved-in-Passed g c =
     let v = g.Input.InputIndexer.view context.input in
     let all = g.met.Input.InputIndexer.are_of_kind context.input in
     let searchable = subst (IsSearchable program) (g.met.Input.ExecutorInput.shows context.input) context.searchable in
-    let there : Reaches program v c.places.from c.in-Some.start = subst (IsNextStart program v c.places.from) c.in-Some.is c.next_start.ensures.start in
+    let there : Reaches program v c.places.from c.in-Some.start = subst (IsNextStart program v c.places.from) c.in-Some.is c.start_from.ensures.start in
     let here = counts-past program v searchable all c.args.offset c.places.from c.in-Some.start _ _ c.places.invariant.place there.place there.low there.on c.places.invariant.counted in
-    let passes : PassesOver program v c.in-Some.start c.in-Passed.past = subst (IsKnown program v c.in-Some.start) c.in-Passed.is c.known_at.ensures in
+    let passes : PassesOver program v c.in-Some.start c.in-Passed.past = subst (IsKnown program v c.in-Some.start) c.in-Passed.is c.known_of.ensures in
     let further = passes.further in
     record {
       finds = passes.on c.args.offset (there.on c.args.offset c.places.invariant.finds);
@@ -177,7 +177,7 @@ returns-in-Some-found-clause-counted g c =
     let v = g.Input.InputIndexer.view context.input in
     let all = g.met.Input.InputIndexer.are_of_kind context.input in
     let searchable = subst (IsSearchable program) (g.met.Input.ExecutorInput.shows context.input) context.searchable in
-    let there : Reaches program v c.places.from c.in-Some.start = subst (IsNextStart program v c.places.from) c.in-Some.is c.next_start.ensures.start in
+    let there : Reaches program v c.places.from c.in-Some.start = subst (IsNextStart program v c.places.from) c.in-Some.is c.start_from.ensures.start in
     let here = counts-past program v searchable all c.args.offset c.places.from c.in-Some.start _ _ c.places.invariant.place there.place there.low there.on c.places.invariant.counted in
     let (n, r, run, spends) = c.in_ok-found.ensures.counted in
     counts-ends program v c.args.offset c.in-Some.start _ _ _ n r here run spends
@@ -189,7 +189,7 @@ returns-in_default-2-clause-counted g c =
     let v = g.Input.InputIndexer.view context.input in
     let all = g.met.Input.InputIndexer.are_of_kind context.input in
     let searchable = subst (IsSearchable program) (g.met.Input.ExecutorInput.shows context.input) context.searchable in
-    let there : Reaches program v c.places.from c.in-Some.start = subst (IsNextStart program v c.places.from) c.in-Some.is c.next_start.ensures.start in
+    let there : Reaches program v c.places.from c.in-Some.start = subst (IsNextStart program v c.places.from) c.in-Some.is c.start_from.ensures.start in
     let here = counts-past program v searchable all c.args.offset c.places.from c.in-Some.start _ _ c.places.invariant.place there.place there.low there.on c.places.invariant.counted in
     let (n, r, run, spends) = c.in_ok-found.ensures.counted in
     counts-ends program v c.args.offset c.in-Some.start _ _ _ n r here run spends
@@ -201,7 +201,7 @@ returns-in_default-beside-clause-counted g c =
     let v = g.Input.InputIndexer.view context.input in
     let all = g.met.Input.InputIndexer.are_of_kind context.input in
     let searchable = subst (IsSearchable program) (g.met.Input.ExecutorInput.shows context.input) context.searchable in
-    let there : Reaches program v c.places.from c.in-Some.start = subst (IsNextStart program v c.places.from) c.in-Some.is c.next_start.ensures.start in
+    let there : Reaches program v c.places.from c.in-Some.start = subst (IsNextStart program v c.places.from) c.in-Some.is c.start_from.ensures.start in
     let here = counts-past program v searchable all c.args.offset c.places.from c.in-Some.start _ _ c.places.invariant.place there.place there.low there.on c.places.invariant.counted in
     let (n, r, run, spends) = c.in_ok-found.ensures.counted in
     counts-ends program v c.args.offset c.in-Some.start _ _ _ n r here run spends

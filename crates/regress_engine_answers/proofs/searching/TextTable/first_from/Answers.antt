@@ -17,7 +17,7 @@ returns-in-Some-2-clause-found g c =
     let program = program_of context.program.now in
     let v = g.Input.InputIndexer.view context.input in
     let all = g.met.Input.InputIndexer.are_of_kind context.input in
-    let there : Reaches program v c.places.from c.in-Some.start = subst (IsNextStart program v c.places.from) c.in-Some.is c.next_start.ensures.start in
+    let there : Reaches program v c.places.from c.in-Some.start = subst (IsNextStart program v c.places.from) c.in-Some.is c.next_place.ensures.start in
     let groups = map marks_of c.run_from.new.groups.items in
     search-found program v all c.args.offset c.in-Some.start c.in-Some-2.end groups (there.on c.args.offset c.places.invariant.finds)
     (subst (λ x. IsAnswer program (input_of v) c.in-Some.start x groups) c.in-Some-2.is c.in_ok-end.ensures.answer)
@@ -27,7 +27,7 @@ beside-requires g c =
     let context = c.args.context.now in
     let program = program_of context.program.now in
     let v = g.Input.InputIndexer.view context.input in
-    let there : Reaches program v c.places.from c.in-Some.start = subst (IsNextStart program v c.places.from) c.in-Some.is c.next_start.ensures.start in
+    let there : Reaches program v c.places.from c.in-Some.start = subst (IsNextStart program v c.places.from) c.in-Some.is c.next_place.ensures.start in
     can-read v (g.met.Input.InputIndexer.are_of_kind context.input) c.in-Some.start there.place
 
 pub returns-in_default-beside-clause-found : goal.returns-in_default-beside-clause-found
@@ -36,7 +36,7 @@ returns-in_default-beside-clause-found g c =
     let program = program_of context.program.now in
     let v = g.Input.InputIndexer.view context.input in
     let all = g.met.Input.InputIndexer.are_of_kind context.input in
-    let there : Reaches program v c.places.from c.in-Some.start = subst (IsNextStart program v c.places.from) c.in-Some.is c.next_start.ensures.start in
+    let there : Reaches program v c.places.from c.in-Some.start = subst (IsNextStart program v c.places.from) c.in-Some.is c.next_place.ensures.start in
     let groups = map marks_of c.run_from.new.groups.items in
     search-none program v all c.args.offset c.in-Some.start groups (there.on c.args.offset c.places.invariant.finds)
     (subst (λ x. IsAnswer program (input_of v) c.in-Some.start x groups) c.in_default-2.is c.in_ok-end.ensures.answer) (sym c.in_default-beside.ensures)
@@ -47,7 +47,7 @@ places-smaller g c =
     let program = program_of context.program.now in
     let v = g.Input.InputIndexer.view context.input in
     let all = g.met.Input.InputIndexer.are_of_kind context.input in
-    let there : Reaches program v c.places.from c.in-Some.start = subst (IsNextStart program v c.places.from) c.in-Some.is c.next_start.ensures.start in
+    let there : Reaches program v c.places.from c.in-Some.start = subst (IsNextStart program v c.places.from) c.in-Some.is c.next_place.ensures.start in
     let less = search-less program v all c.in-Some.start _ c.in-Some-beside.behind there.place (sym c.in-Some-beside.ensures) in
     let low = there.low in
     omega (arith, low, less)
@@ -58,7 +58,7 @@ places-preserved g c =
     let program = program_of context.program.now in
     let v = g.Input.InputIndexer.view context.input in
     let all = g.met.Input.InputIndexer.are_of_kind context.input in
-    let there : Reaches program v c.places.from c.in-Some.start = subst (IsNextStart program v c.places.from) c.in-Some.is c.next_start.ensures.start in
+    let there : Reaches program v c.places.from c.in-Some.start = subst (IsNextStart program v c.places.from) c.in-Some.is c.next_place.ensures.start in
     let groups = map marks_of c.run_from.new.groups.items in
     let answer = subst (λ x. IsAnswer program (input_of v) c.in-Some.start x groups) c.in_default-2.is c.in_ok-end.ensures.answer in
     record {
