@@ -2,13 +2,14 @@
 
 use crate::code::program;
 use crate::parsed::rewritten;
-use regress_engine_code::emit;
+use regress_engine_code::{emit, emit_units};
 use regress_engine_exec::BacktrackExecutor;
-use regress_engine_inputs::Utf8Input;
+use regress_engine_inputs::{Utf8Input, Utf16Input};
 use regress_engine_memory::{Failures, FlowTable};
 use regress_engine_undo::Spot;
 use regress_front_core::LoopData;
 use regress_front_tables::Tables;
+use regress_match::Matches;
 use std::alloc::Global;
 use std::test::Fail;
 
@@ -119,8 +120,9 @@ fn that_further_iterations_fail_is_known_apart(rt: HostRuntime) -> Result<(), Fa
     Ok(())
 }
 
-/// A pattern that has very many ways through a text, a piece of that, how often it stands, what ends it, and the first match.
+/// A pattern that has very many ways through a text, its flags, a piece of the text, how often it stands, what ends it, and the first match.
 type HostileRow = (
+    &'static str,
     &'static str,
     &'static str,
     usize,
@@ -129,80 +131,137 @@ type HostileRow = (
 );
 
 const HOSTILE: &[HostileRow] = &[
-    ("(x+x+)+y", "x", 1000, "", None),
-    ("(x+x+)+y", "x", 1000, "y", Some((0, 1001))),
-    ("(a|a)*b", "a", 20_000, "", None),
-    ("(?:a|ab)*c", "ab", 20_000, "", None),
-    ("(?:a|ab)*c", "ab", 20_000, "c", Some((0, 40_001))),
-    ("^(([a-z])+.)+[A-Z]([a-z])+$", "a", 200, "", None),
+    ("(x+x+)+y", "", "x", 1000, "", None),
+    ("(x+x+)+y", "", "x", 1000, "y", Some((0, 1001))),
+    ("(a|a)*b", "", "a", 20_000, "", None),
+    ("(?:a|ab)*c", "", "ab", 20_000, "", None),
+    ("(?:a|ab)*c", "", "ab", 20_000, "c", Some((0, 40_001))),
+    ("^(([a-z])+.)+[A-Z]([a-z])+$", "", "a", 200, "", None),
     (
         "^(([a-z])+.)+[A-Z]([a-z])+$",
-        "a",
+        "", "a",
         200,
         "Ab",
         Some((0, 202)),
     ),
-    ("(a+)+$", "a", 1000, "!", None),
-    ("(.*)*x", "a", 500, "", None),
-    ("(?:a|a?)+$", "a", 1000, "b", Some((1001, 1001))),
-    (r"(\w+\s?)*$", "a", 1000, "!", Some((1001, 1001))),
-    ("(?:(?:a?)*)*b", "a", 500, "", None),
-    ("(?:a?(?:a|a))*?b", "a", 1000, "", None),
-    ("(?=(?:a|a)*b)a", "a", 500, "", None),
-    ("(?>(?:a|a)*b)|a+c", "a", 500, "", None),
-    ("(?<=b(?:a|a)*)c", "a", 1000, "c", None),
-    ("(?:(a|a){127}!)+?", "a", 200, "", None),
-    ("(?:a|aa){200}b", "a", 300, "", None),
+    ("(a+)+$", "", "a", 1000, "!", None),
+    ("(.*)*x", "", "a", 500, "", None),
+    ("(?:a|a?)+$", "", "a", 1000, "b", Some((1001, 1001))),
+    (r"(\w+\s?)*$", "", "a", 1000, "!", Some((1001, 1001))),
+    ("(?:(?:a?)*)*b", "", "a", 500, "", None),
+    ("(?:a?(?:a|a))*?b", "", "a", 1000, "", None),
+    ("(?=(?:a|a)*b)a", "", "a", 500, "", None),
+    ("(?>(?:a|a)*b)|a+c", "", "a", 500, "", None),
+    ("(?<=b(?:a|a)*)c", "", "a", 1000, "c", None),
+    ("(?:(a|a){127}!)+?", "", "a", 200, "", None),
+    ("(?:a|aa){200}b", "", "a", 300, "", None),
     // Of a least number no more iterations are done than the text has room for.
-    (r"(x|){65536,}?\n", "x", 60, "", None),
-    (r"(x|){65536,}?\n", "x", 60, "\n", Some((0, 61))),
-    ("(?:(?:yy)?|x){65536,}z", "x", 60, "", None),
-    ("(?:x{0,40}|y){65536,}z", "x", 60, "", None),
+    (r"(x|){65536,}?\n", "", "x", 60, "", None),
+    (r"(x|){65536,}?\n", "", "x", 60, "\n", Some((0, 61))),
+    ("(?:(?:yy)?|x){65536,}z", "", "x", 60, "", None),
+    ("(?:x{0,40}|y){65536,}z", "", "x", 60, "", None),
     // Many ways to begin an iteration take nothing.
     (
         "(?:(?:|x|)(?:|x|)(?:|x|)(?:|x|)(?:|x|)(?:|x|)(?:|x|)(?:|x|)(?:|x|)(?:|x|)(?:|x|)(?:|x|)(?:|x|)\
          (?:|x|)(?:|x|)(?:|x|)(?:|x|)(?:|x|)(?:|x|)(?:|x|)(?:|x|)(?:|x|)(?:|x|)(?:|x|)(?:|x|)(?:|x|)a)*b",
-        "a",
+        "", "a",
         12,
         "",
         None,
     ),
     // A loop of many iterations has a plane for each.
-    ("(a|a){0,1000}b", "a", 1_500, "", None),
-    ("(?:a|aa){500}b", "a", 900, "", None),
+    ("(a|a){0,1000}b", "", "a", 1_500, "", None),
+    ("(?:a|aa){500}b", "", "a", 900, "", None),
     // Fewer characters are left than a match needs.
-    ("(?:a?){300}a{300}", "a", 299, "", None),
-    (r"^(x|){65536,}?\n", "x", 1, "", None),
-    ("x*y", "x", 50_000, "", None),
-    ("x*?y", "x", 50_000, "", None),
-    ("x*?(?:y|z)", "x", 50_000, "z", Some((0, 50_001))),
-    ("(x+x+)+y", "x", 50_000, "", None),
-    ("(.*)*x", "a", 50_000, "", None),
-    (r"(\w+\s?)*$", "a", 50_000, "!", Some((50_001, 50_001))),
-    ("(?:a*b)*c", "aab", 20_000, "", None),
-    ("(?:a*b)*c", "aab", 20_000, "c", Some((0, 60_001))),
-    ("(?<=yx*)x", "x", 50_000, "", None),
-    ("(?<=yx*)x", "x", 50_000, "yx", Some((50_001, 50_002))),
-    ("(?=x*(?:y|z))x", "x", 50_000, "", None),
+    ("(?:a?){300}a{300}", "", "a", 299, "", None),
+    (r"^(x|){65536,}?\n", "", "x", 1, "", None),
+    ("x*y", "", "x", 50_000, "", None),
+    ("x*?y", "", "x", 50_000, "", None),
+    ("x*?(?:y|z)", "", "x", 50_000, "z", Some((0, 50_001))),
+    ("(x+x+)+y", "", "x", 50_000, "", None),
+    ("(.*)*x", "", "a", 50_000, "", None),
+    (r"(\w+\s?)*$", "", "a", 50_000, "!", Some((50_001, 50_001))),
+    ("(?:a*b)*c", "", "aab", 20_000, "", None),
+    ("(?:a*b)*c", "", "aab", 20_000, "c", Some((0, 60_001))),
+    ("(?<=yx*)x", "", "x", 50_000, "", None),
+    ("(?<=yx*)x", "", "x", 50_000, "yx", Some((50_001, 50_002))),
+    ("(?=x*(?:y|z))x", "", "x", 50_000, "", None),
+    ("(a+)+$", "", "a", 50_000, "!", None),
+    ("(?:a|a?)+$", "", "a", 20_000, "b", Some((20_001, 20_001))),
+    ("(K|K){31}?", "", "K", 30, "z", None),
+    (r"(?:(x|x){127}\n)+?", "", "x", 61, "", None),
+    ("(?:(?:a|aa){128,129}b)+?", "", "a", 200, "", None),
+    ("^(?:a|a)*$", "m", "a", 20_000, "b\n", Some((20_002, 20_002))),
+    ("^(?:a|ab)*$", "m", "ab", 20_000, "c\nab", Some((40_002, 40_004))),
+    // Nothing is passed again and again before runs that end at once.
+    (r"\d+(?:\.\d+)?%", "", "1", 50_000, "", None),
+    ("[a-z]+(?:11|22)z", "", "a", 50_000, "", None),
+    (r"[A-Za-z]+@[a-z]+\.com", "", "a", 50_000, "@b", None),
     // What is known of an iteration that has taken nothing is not known of one that has.
-    ("(?:x|x)*y|a?(?=(?:a?)*b)a", "x", 30, "ab", Some((30, 31))),
+    ("(?:x|x)*y|a?(?=(?:a?)*b)a", "", "x", 30, "ab", Some((30, 31))),
 ];
 
 /// The first match of a pattern in a text, by the executor that undoes.
-fn first_match(alloc: Global, pattern: &str, text: &str) -> Result<Option<(usize, usize)>, Fail> {
+fn first_match(
+    alloc: Global,
+    pattern: &str,
+    flags: &str,
+    text: &str,
+) -> Result<Option<(usize, usize)>, Fail> {
     let tables = Tables::small(alloc)?;
-    let program = emit(alloc, &rewritten(alloc, pattern, "", &tables)?)?;
+    let program = emit(alloc, &rewritten(alloc, pattern, flags, &tables)?)?;
     let mut executor = BacktrackExecutor::new(alloc, &program, text);
+    let found = executor.find_from(0)?;
+    Ok(found.map(|m| (m.start(), m.end())))
+}
+
+/// The same over 16-bit units.
+fn first_match_in_units(
+    alloc: Global,
+    pattern: &str,
+    flags: &str,
+    text: &str,
+) -> Result<Option<(usize, usize)>, Fail> {
+    let tables = Tables::small(alloc)?;
+    let program = emit_units(alloc, &rewritten(alloc, pattern, flags, &tables)?)?;
+    let units: Vec<u16> = text.encode_utf16().collect(alloc)?;
+    let input = Utf16Input::new(&units, program.flags().is_unicode(), program.tables());
+    let mut executor = BacktrackExecutor::with_input(alloc, &program, input);
     let found = executor.find_from(0)?;
     Ok(found.map(|m| (m.start(), m.end())))
 }
 
 #[test]
 fn patterns_of_many_ways_are_searched_soon(rt: HostRuntime) -> Result<(), Fail> {
-    for (pattern, piece, count, end, expected) in HOSTILE {
+    for (pattern, flags, piece, count, end, expected) in HOSTILE {
         let mut text = piece.repeat(rt.alloc(), *count)?;
         text.push_str(end)?;
-        assert!(rt; first_match(rt.alloc(), pattern, text.as_str())? == *expected);
+        assert!(rt; first_match(rt.alloc(), pattern, flags, text.as_str())? == *expected);
     }
+    Ok(())
+}
+
+#[test]
+fn and_over_units(rt: HostRuntime) -> Result<(), Fail> {
+    for (pattern, flags, piece, count, end, expected) in HOSTILE {
+        let mut text = piece.repeat(rt.alloc(), *count)?;
+        text.push_str(end)?;
+        assert!(rt; first_match_in_units(rt.alloc(), pattern, flags, text.as_str())? == *expected);
+    }
+    Ok(())
+}
+
+#[test]
+fn what_is_remembered_serves_all_matches(rt: HostRuntime) -> Result<(), Fail> {
+    let tables = Tables::small(rt.alloc())?;
+    let program = emit(rt.alloc(), &rewritten(rt.alloc(), "a.*b|a", "", &tables)?)?;
+    let text = "a".repeat(rt.alloc(), 20_000)?;
+    let executor = BacktrackExecutor::new(rt.alloc(), &program, text.as_str());
+    let mut count: usize = 0;
+    for found in Matches::new(executor, 0) {
+        let _ = found?;
+        count = count.saturating_add(1);
+    }
+    assert!(rt; count == 20_000);
     Ok(())
 }
