@@ -42,6 +42,7 @@ __all__ = [
 # ----------------------------------------------------------------------------------------------------------------------------
 
 _UNSET = ctypes.c_size_t(-1).value
+_MOST_MATCHES, _MOST_RANGES = 1 << 16, 1 << 18  # so many are asked for at once
 _OUT_OF_MEMORY, _NO_ROOM, _SYNTAX, _FLAG_ERRORS, _TOO_MANY_STEPS = -1, -6, -7, (-12, -13, -14), -19
 _Size, _SizeOut, _Bytes, _Code = ctypes.c_size_t, ctypes.POINTER(ctypes.c_size_t), ctypes.c_void_p, ctypes.c_int32
 
@@ -454,7 +455,8 @@ class Pattern:
         return Match(self, string, pos, endpos, text, ends[:]) if code > 0 else None
 
     def _all(self, text, start):
-        """The ends of the ranges of one match after another. Few are asked for at first, and then more at a time."""
+        """The ends of the ranges of one match after another. One is asked for at first, and then twice as many each time, so that few
+        calls find them all: each call has to remember anew from where a pattern of many ways fails."""
         width = self.groups + 1
         at, found, count = ctypes.c_size_t(start), ctypes.c_size_t(), 1
         code = 0
@@ -464,7 +466,7 @@ class Pattern:
             told = ends[:2 * width * found.value]
             for first in range(0, len(told), 2 * width):
                 yield told[first:first + 2 * width]
-            count = max(count, min(2 * count, 64, 4096 // width))
+            count = max(count, min(2 * count, _MOST_MATCHES, _MOST_RANGES // width))
         self._check(code)
 
     def search(self, string, pos=0, endpos=sys.maxsize):

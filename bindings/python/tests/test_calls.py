@@ -86,6 +86,8 @@ class Searching(unittest.TestCase):
         self.assertEqual(spans, [(0, 0), (1, 2), (2, 2)])
         many = [found.span() for found in regress.finditer("a", "a" * 1000)]
         self.assertEqual(many, [(place, place + 1) for place in range(1000)])
+        # From each letter a way goes to the end, so that it has to be remembered that these fail.
+        self.assertEqual(sum(1 for found in regress.finditer("a.*b|a", "a" * 30_000)), 30_000)
         one, other = regress.finditer("a", "a" * 100), regress.finditer("a", "ba" * 100)
         self.assertEqual([(x.start(), y.start()) for x, y in zip(one, other)], [(k, 2 * k + 1) for k in range(100)])
         self.assertEqual([found.span() for found in regress.compile("a").finditer("aaaa", 1, 3)], [(1, 2), (2, 3)])

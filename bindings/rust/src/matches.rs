@@ -9,8 +9,8 @@ use std::iter::FusedIterator;
 use std::sync::Arc;
 
 /// How many matches are asked for at once, at most, and how many ranges that may take.
-const MATCHES: usize = 16;
-const RANGES: usize = 4096;
+const MATCHES: usize = 1 << 16;
+const RANGES: usize = 1 << 18;
 
 /// The matches in a text, one behind another. It borrows the regex and the text:
 ///
@@ -60,7 +60,8 @@ impl<'r, 't> Matches<'r, 't> {
         Matches { search, text, names: names.clone(), width, start, found: Vec::new(), asked: 1, failed: None }
     }
 
-    /// Finds more matches: one at first, and then more at a time.
+    /// Finds more matches: one at first, and then twice as many each time, so that few calls find them all. Each call has to remember anew
+    /// from where a pattern of many ways fails.
     fn find_more(&mut self) {
         let unset = TextRange { start: UNSET, end: UNSET };
         let mut ranges = vec![unset; self.asked * self.width];

@@ -48,6 +48,13 @@ fn iterators_of_one_regex_at_once() {
 }
 
 #[test]
+fn an_iterator_over_many_ways_ends_soon() {
+    // From each letter a way goes to the end, so that it has to be remembered that these fail.
+    let text = "a".repeat(30_000);
+    assert_eq!(Regex::new("a.*b|a").unwrap().find_iter(&text).count(), 30_000);
+}
+
+#[test]
 fn an_iterator_moves_to_another_thread() {
     let regex = Regex::new("a").unwrap();
     let mut matches = regex.find_iter("aaaa");
