@@ -3,7 +3,7 @@
 use crate::code::program;
 use crate::parsed::rewritten;
 use regress_engine_analysis::Known;
-use regress_engine_code::emit;
+use regress_engine_code::{CompiledRegex, emit, emit_units};
 use regress_engine_inputs::Utf8Input;
 use regress_engine_insn::Insn;
 use regress_engine_singles::{as_far_ahead, taken_before};
@@ -32,6 +32,19 @@ const KNOWN: &[(&str, usize, usize)] = &[
     ("(?:[^ab]|b.)*c", 0, 0),
 ];
 
+/// How many loops of a program give nothing back, and how many of its repetitions have iterations of one character each, as is known.
+fn known_in(program: &CompiledRegex) -> (usize, usize) {
+    let mut found = (0_usize, 0_usize);
+    for at in 0..program.insns().len() {
+        match program.known(at) {
+            Known::Possessive => found.0 = found.0.saturating_add(1),
+            Known::Turn(_) => found.1 = found.1.saturating_add(1),
+            Known::Nothing => (),
+        }
+    }
+    found
+}
+
 #[test]
 fn loops_give_nothing_back_where_what_follows_begins_otherwise(
     rt: HostRuntime,
@@ -39,26 +52,17 @@ fn loops_give_nothing_back_where_what_follows_begins_otherwise(
     let tables = Tables::small(rt.alloc())?;
     for (pattern, possessive, turns) in KNOWN {
         let regex = rewritten(rt.alloc(), pattern, "", &tables)?;
-        let program = emit(rt.alloc(), &regex)?;
-        let mut found = (0_usize, 0_usize);
-        for at in 0..program.insns().len() {
-            match program.known(at) {
-                Known::Possessive => found.0 = found.0.saturating_add(1),
-                Known::Turn(_) => found.1 = found.1.saturating_add(1),
-                Known::Nothing => (),
-            }
-        }
-        assert!(rt; found == (*possessive, *turns));
+        assert!(rt; known_in(&emit(rt.alloc(), &regex)?) == (*possessive, *turns));
     }
     Ok(())
 }
 
 #[test]
-fn of_units_nothing_is_known(rt: HostRuntime) -> Result<(), Fail> {
+fn of_units_the_same_is_known(rt: HostRuntime) -> Result<(), Fail> {
     let tables = Tables::small(rt.alloc())?;
-    let program = program(rt.alloc(), "a*b", "", true, &tables)?;
-    for at in 0..program.insns().len() {
-        assert!(rt; matches!(program.known(at), Known::Nothing));
+    for (pattern, possessive, turns) in KNOWN {
+        let regex = rewritten(rt.alloc(), pattern, "", &tables)?;
+        assert!(rt; known_in(&emit_units(rt.alloc(), &regex)?) == (*possessive, *turns));
     }
     Ok(())
 }
