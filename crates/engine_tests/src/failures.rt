@@ -139,7 +139,8 @@ const HOSTILE: &[HostileRow] = &[
     ("^(([a-z])+.)+[A-Z]([a-z])+$", "", "a", 200, "", None),
     (
         "^(([a-z])+.)+[A-Z]([a-z])+$",
-        "", "a",
+        "",
+        "a",
         200,
         "Ab",
         Some((0, 202)),
@@ -164,7 +165,8 @@ const HOSTILE: &[HostileRow] = &[
     (
         "(?:(?:|x|)(?:|x|)(?:|x|)(?:|x|)(?:|x|)(?:|x|)(?:|x|)(?:|x|)(?:|x|)(?:|x|)(?:|x|)(?:|x|)(?:|x|)\
          (?:|x|)(?:|x|)(?:|x|)(?:|x|)(?:|x|)(?:|x|)(?:|x|)(?:|x|)(?:|x|)(?:|x|)(?:|x|)(?:|x|)(?:|x|)a)*b",
-        "", "a",
+        "",
+        "a",
         12,
         "",
         None,
@@ -191,14 +193,35 @@ const HOSTILE: &[HostileRow] = &[
     ("(K|K){31}?", "", "K", 30, "z", None),
     (r"(?:(x|x){127}\n)+?", "", "x", 61, "", None),
     ("(?:(?:a|aa){128,129}b)+?", "", "a", 200, "", None),
-    ("^(?:a|a)*$", "m", "a", 20_000, "b\n", Some((20_002, 20_002))),
-    ("^(?:a|ab)*$", "m", "ab", 20_000, "c\nab", Some((40_002, 40_004))),
+    (
+        "^(?:a|a)*$",
+        "m",
+        "a",
+        20_000,
+        "b\n",
+        Some((20_002, 20_002)),
+    ),
+    (
+        "^(?:a|ab)*$",
+        "m",
+        "ab",
+        20_000,
+        "c\nab",
+        Some((40_002, 40_004)),
+    ),
     // Nothing is passed again and again before runs that end at once.
     (r"\d+(?:\.\d+)?%", "", "1", 50_000, "", None),
     ("[a-z]+(?:11|22)z", "", "a", 50_000, "", None),
     (r"[A-Za-z]+@[a-z]+\.com", "", "a", 50_000, "@b", None),
     // What is known of an iteration that has taken nothing is not known of one that has.
-    ("(?:x|x)*y|a?(?=(?:a?)*b)a", "", "x", 30, "ab", Some((30, 31))),
+    (
+        "(?:x|x)*y|a?(?=(?:a?)*b)a",
+        "",
+        "x",
+        30,
+        "ab",
+        Some((30, 31)),
+    ),
 ];
 
 /// The first match of a pattern in a text, by the executor that undoes.

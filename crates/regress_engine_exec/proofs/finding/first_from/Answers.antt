@@ -44,7 +44,7 @@ pub run_within-requires-clause-begun : goal.run_within-requires-clause-begun
 run_within-requires-clause-begun g c =
     let context = c.args.context.now in
     way-comes (program_of context.program.now) (input_of (g.Input.InputIndexer.view context.input)) c.in-Some.start c.in-At.first
-    (subst (IsKnown (program_of context.program.now) (g.Input.InputIndexer.view context.input) c.in-Some.start) c.in-At.is c.known_of.ensures)
+    (subst (IsKnown (program_of context.program.now) (g.Input.InputIndexer.view context.input) c.in-Some.start) c.in-At.is c.known_of.ensures.known)
 
 pub returns-in_default-clause-found : goal.returns-in_default-clause-found
 returns-in_default-clause-found g c =
@@ -121,7 +121,7 @@ known_of-requires g c =
     let program = program_of context.program.now in
     let v = g.Input.InputIndexer.view context.input in
     let there : Reaches program v c.places.from c.in-Some.start = subst (IsNextStart program v c.places.from) c.in-Some.is c.start_from.ensures.start in
-    there.place
+    record { place = there.place }
 
 pub places-smaller-in-Passed : goal.places-smaller-in-Passed
 places-smaller-in-Passed g c =
@@ -130,7 +130,7 @@ places-smaller-in-Passed g c =
     let v = g.Input.InputIndexer.view context.input in
     let all = g.met.Input.InputIndexer.are_of_kind context.input in
     let there : Reaches program v c.places.from c.in-Some.start = subst (IsNextStart program v c.places.from) c.in-Some.is c.start_from.ensures.start in
-    let passes : PassesOver program v c.in-Some.start c.in-Passed.past = subst (IsKnown program v c.in-Some.start) c.in-Passed.is c.known_of.ensures in
+    let passes : PassesOver program v c.in-Some.start c.in-Passed.past = subst (IsKnown program v c.in-Some.start) c.in-Passed.is c.known_of.ensures.known in
     let low = there.low in
     let further = passes.further in
     let inside = place-lies v all c.in-Passed.past passes.place in
@@ -145,7 +145,7 @@ places-preserved-in-Passed g c =
     let searchable = subst (IsSearchable program) (g.met.Input.ExecutorInput.shows context.input) context.searchable in
     let there : Reaches program v c.places.from c.in-Some.start = subst (IsNextStart program v c.places.from) c.in-Some.is c.start_from.ensures.start in
     let here = counts-past program v searchable all c.args.offset c.places.from c.in-Some.start _ _ c.places.invariant.place there.place there.low there.on c.places.invariant.counted in
-    let passes : PassesOver program v c.in-Some.start c.in-Passed.past = subst (IsKnown program v c.in-Some.start) c.in-Passed.is c.known_of.ensures in
+    let passes : PassesOver program v c.in-Some.start c.in-Passed.past = subst (IsKnown program v c.in-Some.start) c.in-Passed.is c.known_of.ensures.known in
     let further = passes.further in
     record {
       finds = passes.on c.args.offset (there.on c.args.offset c.places.invariant.finds);
