@@ -4,8 +4,7 @@ ghost use Rattle.regress_engine_input.specs.Views.{reading_of};
 ghost use Rattle.regress_engine_runs.specs.Meets.{IsAtPlace};
 ghost use Rattle.regress_engine_search.specs.Skipping.{IsNextStart};
 
-use regress_engine_prefix::StartPredicate;
-use regress_engine_scanning::Landmark;
+use regress_engine_code::{Landmark, StartPredicate};
 use regress_engine_search::{ExecutorInput, SearchContext};
 
 /// The place from which a search goes on from an offset: what `SearchContext::next_start` answers, but the offset itself where that

@@ -13,6 +13,7 @@ mod turning;
 
 pub use budget::SearchBudget;
 pub use error::SearchError;
+pub use regress_engine_attempt::MOST_REMEMBERED;
 pub use regress_engine_search::{ExecutorInput, Shown};
 pub use scratch::Scratch;
 pub use search::{BacktrackExecutor, Backtracker, BoundedExecutor};

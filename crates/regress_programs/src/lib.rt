@@ -14,8 +14,9 @@ pub use ascii::AsciiMatches;
 pub use compiled::Compiled;
 pub use laws::programs_of_trees_are_of_patterns;
 pub use matches::Matches;
-pub use regress_engine_attempt::MOST_REMEMBERED;
-pub use regress_engine_exec::{BacktrackExecutor, LINEAR_STEPS, MOST_TOLD, Scratch, SearchError};
+pub use regress_engine_exec::{
+    BacktrackExecutor, LINEAR_STEPS, MOST_REMEMBERED, MOST_TOLD, Scratch, SearchError,
+};
 pub use regress_engine_linear::{MOST_ADDRESSES, MOST_REPEATS};
 pub use searcher::Searcher;
 pub use searching::first_within;
