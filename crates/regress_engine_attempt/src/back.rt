@@ -48,8 +48,7 @@ fn exhaust(frame: &Frame, spot: &mut Spot) -> bool
 }
 
 impl<'a, Input: ExecutorInput> Attempt<'a, Input> {
-    /// The far one of some offsets, from a far one back to a near one, at which it may continue at an address, where what is
-    /// taken first from there on stands; `None` where it stands at none of them.
+    /// The first offset, from a far one back to a near one, where what is taken first at an address stands; `None` where it stands at none.
     fn far_way(
         &self,
         at: usize,
@@ -186,9 +185,8 @@ impl<'a, Input: ExecutorInput> Attempt<'a, Input> {
         }
     }
 
-    /// The near one of some offsets, from one on behind each iteration of the instruction before an address, at most so many,
-    /// at which it may continue there, where what is taken first from there on stands, and how many may follow; the last one
-    /// where it stands at none of them.
+    /// The first offset, from one on behind each iteration of the instruction before an address, at most so many, where what is taken
+    /// first at the address stands, and how many may follow; the last one where it stands at none.
     fn near_way(
         &self,
         at: usize,
@@ -365,8 +363,7 @@ impl<'a, Input: ExecutorInput> Attempt<'a, Input> {
         }
     }
 
-    /// Undoes a record, and answers whether there is a state to be tried. Where failures are kept, those of the exits of
-    /// one-character loops are learned.
+    /// Undoes a record, and answers whether there is a state to be tried. Where failures are kept, those of exits of loops are learned.
     #[inline(always)]
     fn undo_one(
         &self,

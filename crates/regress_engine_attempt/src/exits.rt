@@ -325,8 +325,7 @@ impl<'a, Input: ExecutorInput> Attempt<'a, Input> {
         Ok(going)
     }
 
-    /// The far offset that a greedy one-character loop takes from a near one on, at most so many, as far as it isn't known that
-    /// all exits from there on fail; `None` where that is known of the near one.
+    /// How far a greedy one-character loop goes before its exits are known to fail; `None` where those from the near one on are.
     fn far_exit(
         &self,
         at: usize,

@@ -63,9 +63,7 @@ impl Remembered {
     /// Whether more was undone and passed over than normal searches do, so that failures are kept, if there is memory for them.
     ///
     /// ```rust
-    /// if remembered.has_begun() {
-    ///     return Some(offset);
-    /// }
+    /// let is_kept = remembered.has_begun();
     /// ```
     #[inline]
     pub fn has_begun(&self) -> bool
@@ -127,8 +125,7 @@ impl<'a, Input: ExecutorInput> Attempt<'a, Input> {
         units_ahead(&self.input, spot.forward, spot.offset) < failures.need(spot.at)
     }
 
-    /// Whether the state at a spot surely fails: it needs more text than there is, or is known to fail. If not, it may be recorded that
-    /// it is tried.
+    /// Whether the state at a spot fails, for want of text or as is known. If not, it may be recorded that it is tried.
     #[inline(never)]
     fn surely_fails(
         &self,
@@ -240,8 +237,7 @@ impl<'a, Input: ExecutorInput> Attempt<'a, Input> {
         }
     }
 
-    /// What is known to fail where that is begun: nothing. `None` where the program's table does not pass its test, or where memory
-    /// is refused.
+    /// What is known to fail at first: nothing. `None` where the program's table does not pass its test, or memory is refused.
     #[cold]
     fn nothing_known(&self, alloc: Global) -> Option<Box<Failures>>
         ensures { IfSome result (λ failures. AreOf (world Input.view self.now) failures.value) }
@@ -303,8 +299,7 @@ impl<'a, Input: ExecutorInput> Attempt<'a, Input> {
         failures.learn(&there, memory.loops(), last);
     }
 
-    /// Undoes a record of a one-character loop where failures are kept. It answers whether there is a state to be tried, or `None`
-    /// of another record, which is still to be undone.
+    /// Undoes a record of a one-character loop where failures are kept, as `undo` does. `None` of another record, which stays to be undone.
     #[inline(never)]
     fn undo_known(
         &self,

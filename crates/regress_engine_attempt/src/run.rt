@@ -18,9 +18,8 @@ use regress_front_core::GroupData;
 use std::alloc::AllocError;
 
 impl<'a, Input: ExecutorInput> Attempt<'a, Input> {
-    /// Runs the program from the offset, at an address to which the run comes with nothing changed. It answers where the run's
-    /// answer ends, whose groups `memory` then has, or `None` where the run has none. `answer` is room for groups. What it learns of
-    /// failures is remembered. It errs where memory is refused alone; what is remembered stays so.
+    /// Runs the program from the offset, at an address to which the run comes with nothing changed. It answers where the run's answer ends,
+    /// whose groups `memory` then has, if there is one. `answer` is room for groups. Failures are remembered. Only refused memory is an error.
     ///
     /// ```rust
     /// let end = attempt.run(0, &mut memory, &mut answer, &mut remembered)?;
@@ -47,9 +46,9 @@ impl<'a, Input: ExecutorInput> Attempt<'a, Input> {
         }
     }
 
-    /// Runs the program as `run` does, and counts each step against a budget: each instruction that is done, or state that is
-    /// dropped, and one more for each 64 units that a one-character loop passes over, or has to take and may not, or that a back
-    /// reference compares. It answers what the run does, or that no more steps may be counted. It has never counted more than the run takes, where each of its steps may pass over the whole text.
+    /// Runs the program as `run` does, and counts each step against a budget: each instruction that is done, or state that is dropped, and one
+    /// more for each 64 units that a one-character loop passes over, or has to take and may not, or that a back reference compares. It answers
+    /// what the run does, or that no more may be counted. It counts no more than the run takes, where each step may pass over the whole text.
     ///
     /// ```rust
     /// let ended = attempt.run_within(0, &mut memory, &mut answer, &mut remembered, &mut budget)?;

@@ -76,8 +76,7 @@ impl<'a, Input: ExecutorInput> Attempt<'a, Input> {
         turn_at(self.program, at).is_some()
     }
 
-    /// The iterations that begin at an address with two ways, where the first one is a class and nothing else, and where that
-    /// takes a character surely no match can be reached by the other one, nor behind the repetition.
+    /// The iterations that begin at an address with two ways, of which the first is a class alone and, where it takes one, the only one.
     fn turn(&self, at: usize, second: usize) -> Option<Turn<'_>>
         requires suits { Suits (program_of self.now.program.now) (Input.view self.now.input) }
         requires stands { Stands (program_of self.now.program.now) at (alt second) }
@@ -97,8 +96,7 @@ impl<'a, Input: ExecutorInput> Attempt<'a, Input> {
         })
     }
 
-    /// The address where it continues behind so many iterations, of which the class takes no more: where the last one ends, or
-    /// behind the repetition where no other match can be reached.
+    /// Where it continues behind all iterations that the class takes: where the last one ends, or behind the repetition if all else fails.
     fn way_on(&self, turn: &Turn<'_>, second: usize, count: usize, offset: usize) -> usize
         requires { Suits (program_of self.now.program.now) (Input.view self.now.input) }
         ensures { LeadsOut (world Input.view self.now) turn.now second count offset result }
@@ -112,8 +110,7 @@ impl<'a, Input: ExecutorInput> Attempt<'a, Input> {
         turn.again
     }
 
-    /// Does as many iterations as are one character each, of a repetition of which so many have begun: goes on where the last
-    /// one ends, or behind the repetition where nothing else is left; by the other way where the class takes no character.
+    /// Does all iterations of one character each, where so many have begun, and goes on behind them; by the other way where there are none.
     fn turn_on(
         &self,
         turn: &Turn<'_>,

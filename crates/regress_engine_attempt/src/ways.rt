@@ -12,8 +12,7 @@ use regress_engine_insn::Insn;
 use regress_engine_search::ExecutorInput;
 
 impl<'a, Input: ExecutorInput> Attempt<'a, Input> {
-    /// The address at which it continues from one, read forward, where the character ahead begins with this byte: as long as one
-    /// of two ways surely leads nowhere, by the other.
+    /// Where it continues, read forward, before this byte: as long as one of two ways surely leads nowhere, by the other.
     #[inline(always)]
     fn way_ahead(&self, start: usize, byte: u8) -> usize
         requires { Suits (program_of self.now.program.now) (Input.view self.now.input) }
