@@ -74,7 +74,7 @@ fn same(alloc: Global, undoing: Option<String>, copying: Option<String>) -> Resu
 }
 
 /// All matches of a program of bytes in a text of UTF-8, by the executor that undoes.
-fn undoing_over_utf8<'r>(
+pub(crate) fn undoing_over_utf8<'r>(
     alloc: Global,
     program: &'r CompiledRegex,
     text: &'r str,
