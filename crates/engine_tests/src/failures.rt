@@ -1,7 +1,7 @@
 //! What is remembered of failures: a table that tells nothing, and a memory that learns nothing, are proved too, and only slower.
 
 use crate::code::program;
-use crate::found::{undoing_over_utf8, whole};
+use crate::found::undoing_in_utf8;
 use crate::parsed::rewritten;
 use regress_engine_code::{emit, emit_units};
 use regress_engine_exec::BacktrackExecutor;
@@ -277,9 +277,9 @@ fn and_over_units(rt: HostRuntime) -> Result<(), Fail> {
 #[test]
 fn what_is_remembered_serves_all_matches(rt: HostRuntime) -> Result<(), Fail> {
     let tables = Tables::small(rt.alloc())?;
-    let program = emit(rt.alloc(), &rewritten(rt.alloc(), "a.*b|a", "", &tables)?)?;
+    let regex = rewritten(rt.alloc(), "a.*b|a", "", &tables)?;
     let text = "a".repeat(rt.alloc(), 20_000)?;
-    let told = whole(undoing_over_utf8(rt.alloc(), &program, text.as_str())?)?;
+    let told = undoing_in_utf8(rt.alloc(), &regex, text.as_str())?;
     let parted = told.as_str().bytes().filter(|byte| *byte == b'|');
     assert!(rt; parted.count() == 19_999);
     Ok(())

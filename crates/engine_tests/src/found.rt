@@ -74,7 +74,7 @@ fn same(alloc: Global, undoing: Option<String>, copying: Option<String>) -> Resu
 }
 
 /// All matches of a program of bytes in a text of UTF-8, by the executor that undoes.
-pub(crate) fn undoing_over_utf8<'r>(
+fn undoing_over_utf8<'r>(
     alloc: Global,
     program: &'r CompiledRegex,
     text: &'r str,
@@ -96,6 +96,15 @@ fn copying_over_utf8<'r>(
     let input = Utf8Input::new(text, program.flags().is_unicode(), program.tables());
     let executor = PikeVMExecutor::with_input(alloc, program, input);
     listed(alloc, Matches::new(executor, 0))
+}
+
+/// All matches of a tree in a text of UTF-8, which the executor that undoes finds.
+pub(crate) fn undoing_in_utf8(alloc: Global, regex: &Regex<'_>, text: &str) -> Result<String, Fail>
+    requires { (n : ℕ) × IsWellFormed n (tree regex.now.node) }
+{
+    let program = emit(alloc, regex)?;
+    let undoing = undoing_over_utf8(alloc, &program, text)?;
+    Ok(whole(undoing)?)
 }
 
 /// All matches of a tree in a text of UTF-8, which both executors find.
