@@ -17,7 +17,7 @@ use Rattle.regress_engine_scanning.specs.Least.{IsLeast}
 -- ---- sets of bytes
 
 -- a test for equality may be turned round
-eq-turned : (x a : ℕ) → (x == a) ≡ (a == x)
+pub eq-turned : (x a : ℕ) → (x == a) ≡ (a == x)
 eq-turned x a = by_order (cases_eq x a)
   where
     by_order : (x ≡ a) ⊎ (x ≢ a) → (x == a) ≡ (a == x)

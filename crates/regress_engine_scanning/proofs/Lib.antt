@@ -1,5 +1,6 @@
 pub mod ByteLemmas
 pub mod AsciiLemmas
+pub mod LaneLemmas
 pub mod ScanLemmas
 pub mod MarkLemmas
 pub mod NibbleLemmas

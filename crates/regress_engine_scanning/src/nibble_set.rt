@@ -1,18 +1,69 @@
 //! Sets of bytes for which sixteen bytes are tested at once.
-ghost use Rattle.std.specs.Prelude.{◌≡◌, ◌↔◌, ℕ, ◌+◌, ◌<◌, ◌≤◌, true, length, slice_get, slice_index, IfSome, IsTrue};
+ghost use Rattle.std.specs.Prelude.{◌≡◌, ◌↔◌, ℕ, ◌+◌, ◌<◌, ◌≤◌, true, length, map, slice_get, slice_index, IfSome, IsTrue};
 ghost use Rattle.std.specs.Int.{bit_at};
+ghost use Rattle.std.specs.Simd.Lanes.{mask_l};
 ghost use Rattle.regress_meaning.specs.Meaning.{is_some_and};
+ghost use Rattle.regress_meaning.specs.Text.{holds};
 ghost use Rattle.regress_front_bytes.specs.Bitmaps.{byte_bitmap_contains};
-ghost use Rattle.regress_engine_scanning.specs.NibbleSets.{nibble_set_contains};
+ghost use Rattle.regress_engine_scanning.specs.NibbleSets.{nibble_set_contains, tables_contain};
 
 use regress_front_bytes::ByteBitmap;
 use std::simd::prelude::*;
 
-/// A set of bytes as two tables, one by the low half of a byte and one by the high half: of a member both have a bit.
+/// A set of bytes.
 #[derive(Clone, Copy, Debug)]
 pub struct NibbleSet {
+    members: Members,
+}
+
+/// The members of a set.
+#[derive(Clone, Copy, Debug)]
+enum Members {
+    /// At most four. One may stand here more than once.
+    Few([u8; 4]),
+    /// As many as two tables hold.
+    Tables(NibbleTables),
+}
+
+/// A set of bytes as two tables, one by the low half of a byte and one by the high half: of a member both have a bit.
+#[derive(Clone, Copy, Debug)]
+struct NibbleTables {
     low: [u8; 16],
     high: [u8; 16],
+}
+
+/// The last four bytes of a set, of which the first stands more than once where there are fewer. Of an empty set there are none.
+fn last_four(set: &ByteBitmap) -> Option<[u8; 4]> {
+    let mut last: Option<[u8; 4]> = None;
+    for byte in 0..=u8::MAX {
+        if set.contains(byte) {
+            last = match last {
+                Some(four) => Some([four[1], four[2], four[3], byte]),
+                None => Some([byte; 4]),
+            };
+        }
+    }
+    last
+}
+
+/// Whether a byte is one of a few.
+fn is_one_of(few: &[u8; 4], byte: u8) -> bool
+    ensures { result ≡ holds few.now byte }
+{
+    let [first, second, third, fourth] = *few;
+    byte == first || byte == second || byte == third || byte == fourth
+}
+
+/// Which of sixteen bytes are one of a few, a bit for each.
+#[inline(always)]
+fn marks_of_few(few: &[u8; 4], bytes: u8x16) -> u64
+    ensures { result ≡ mask_l (map (holds few.now) bytes) }
+{
+    let [first, second, third, fourth] = *few;
+    (bytes.simd_eq(u8x16::splat(first))
+        | bytes.simd_eq(u8x16::splat(second))
+        | bytes.simd_eq(u8x16::splat(third))
+        | bytes.simd_eq(u8x16::splat(fourth))).to_bitmask()
 }
 
 /// Which of the sixteen bytes with a high half are in a set: a bit for each low half.
@@ -40,23 +91,10 @@ fn place_of(rows: &[u16; 8], row: u16) -> usize
     7
 }
 
-impl NibbleSet {
-    /// The same set, where two such tables can hold it: where the rows of sixteen bytes in it are at most eight different ones,
-    /// as those of ASCII always are. `NibbleSet::new(&ByteBitmap::new(b"ab"))` holds `b'a'` and `b'b'`.
-    pub fn new(set: &ByteBitmap) -> Option<NibbleSet>
-        ensures { IfSome result (λ tables. (b : ℕ) → b < 256 → nibble_set_contains tables b ≡ byte_bitmap_contains set.now b) }
-    {
-        let tables = NibbleSet::of_rows(set);
-        if tables.is_same(set) {
-            Some(tables)
-        } else {
-            None
-        }
-    }
-
+impl NibbleTables {
     /// Tables for the rows of a set. They may hold more than the set does, where it has too many rows.
-    fn of_rows(set: &ByteBitmap) -> NibbleSet {
-        let mut tables = NibbleSet {
+    fn of_rows(set: &ByteBitmap) -> NibbleTables {
+        let mut tables = NibbleTables {
             low: [0; 16],
             high: [0; 16],
         };
@@ -85,6 +123,48 @@ impl NibbleSet {
         }
     }
 
+    /// Whether a byte is a member.
+    fn contains(&self, byte: u8) -> bool
+        ensures { result ≡ tables_contain self.now byte }
+    {
+        self.low[usize::from(byte % 16)] & self.high[usize::from(byte / 16)] != 0
+    }
+
+    /// Which of sixteen bytes are members, a bit for each.
+    #[inline(always)]
+    fn marks(&self, bytes: u8x16) -> u64
+        ensures { result ≡ mask_l (map (tables_contain self.now) bytes) }
+    {
+        let low = u8x16::from_slice(&self.low).swizzle_dyn(bytes & u8x16::splat(15));
+        let high = u8x16::from_slice(&self.high).swizzle_dyn(bytes >> u8x16::splat(4));
+        (low & high).simd_ne(u8x16::splat(0)).to_bitmask()
+    }
+}
+
+impl NibbleSet {
+    /// The same set, where it has at most four members or two tables can hold it: where the rows of sixteen bytes in it are at
+    /// most eight different ones, as those of ASCII always are. `NibbleSet::new(&ByteBitmap::new(b"ab"))` holds `b'a'` and `b'b'`.
+    pub fn new(set: &ByteBitmap) -> Option<NibbleSet>
+        ensures { IfSome result (λ tables. (b : ℕ) → b < 256 → nibble_set_contains tables b ≡ byte_bitmap_contains set.now b) }
+    {
+        if let Some(few) = last_four(set) {
+            let few = NibbleSet {
+                members: Members::Few(few),
+            };
+            if few.is_same(set) {
+                return Some(few);
+            }
+        }
+        let tables = NibbleSet {
+            members: Members::Tables(NibbleTables::of_rows(set)),
+        };
+        if tables.is_same(set) {
+            Some(tables)
+        } else {
+            None
+        }
+    }
+
     /// Whether it has the members of a set.
     fn is_same(&self, set: &ByteBitmap) -> bool
         ensures { IsTrue result → (b : ℕ) → b < 256 → nibble_set_contains self.now b ≡ byte_bitmap_contains set.now b }
@@ -101,7 +181,10 @@ impl NibbleSet {
     pub fn contains(&self, byte: u8) -> bool
         ensures { result ≡ nibble_set_contains self.now byte }
     {
-        self.low[usize::from(byte % 16)] & self.high[usize::from(byte / 16)] != 0
+        match &self.members {
+            Members::Few(few) => is_one_of(few, byte),
+            Members::Tables(tables) => tables.contains(byte),
+        }
     }
 
     /// Whether a member stands at an index.
@@ -121,8 +204,9 @@ impl NibbleSet {
         ensures { (k : ℕ) → (bit_at result k ≡ 1) ↔ ((k < 16) × (nibble_set_contains self.now (slice_index text.now (from + k)) ≡ true)) }
     {
         let bytes = u8x16::from_slice(&text[from..]);
-        let low = u8x16::from_slice(&self.low).swizzle_dyn(bytes & u8x16::splat(15));
-        let high = u8x16::from_slice(&self.high).swizzle_dyn(bytes >> u8x16::splat(4));
-        (low & high).simd_ne(u8x16::splat(0)).to_bitmask()
+        match &self.members {
+            Members::Few(few) => marks_of_few(few, bytes),
+            Members::Tables(tables) => tables.marks(bytes),
+        }
     }
 }

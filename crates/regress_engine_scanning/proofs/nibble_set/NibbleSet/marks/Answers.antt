@@ -1,15 +1,13 @@
-use Rattle.std.proofs.Common.{w8}
-use Rattle.std.specs.Simd.Lanes.{chunk}
-use Rattle.std.proofs.lemmas.Simd.{length-chunk, chunk-fits}
-use Rattle.regress_engine_scanning.proofs.NibbleLemmas.{low-positions, high-positions, marks-tell}
+use Rattle.std.proofs.Common.{arith}
+use Rattle.regress_meaning.specs.Text.{holds}
+use Rattle.regress_engine_scanning.specs.NibbleSets.{tables_contain}
+use Rattle.regress_engine_scanning.proofs.ScanLemmas.{lane-marks}
 use Rattle.regress_engine_scanning.proofs.nibble_set.NibbleSet.marks.Goals as goal
 
-pub swizzle-low : goal.swizzle-low
-swizzle-low c = low-positions (chunk c.args.from 16 c.args.text.now) (length-chunk c.args.from 16 c.args.text.now c.requires)
+pub returns-in-Few : goal.returns-in-Few
+returns-in-Few c =
+    rw c.in-Few.is (lane-marks (holds c.in-Few.few) c.args.text.now c.args.from 16 c.marks_of_few.result c.requires (omega arith) c.marks_of_few.ensures)
 
-pub swizzle-high : goal.swizzle-high
-swizzle-high c =
-    high-positions (chunk c.args.from 16 c.args.text.now) (length-chunk c.args.from 16 c.args.text.now c.requires) (chunk-fits w8 c.args.from 16 c.args.text.now c.type_inv.text)
-
-pub returns : goal.returns
-returns c k = marks-tell c.args.text.now c.args.self.now.low c.args.self.now.high c.args.from c.requires (chunk-fits w8 c.args.from 16 c.args.text.now c.type_inv.text) k
+pub returns-in-Tables : goal.returns-in-Tables
+returns-in-Tables c =
+    rw c.in-Tables.is (lane-marks (tables_contain c.in-Tables.tables) c.args.text.now c.args.from 16 c.marks.result c.requires (omega arith) c.marks.ensures)

@@ -1,6 +1,6 @@
-use Rattle.std.proofs.Common.{rules}
-use Rattle.regress_engine_scanning.proofs.ScanLemmas.{marks-two}
+use Rattle.std.proofs.Common.{arith, rules, w16}
+use Rattle.regress_engine_scanning.proofs.LaneLemmas.{marks-two}
 use Rattle.regress_engine_scanning.proofs.units.ArrayU82UnitSet.marks.Goals as goal
 
 pub returns : goal.returns
-returns c = marks-two c.args.self.now c.args.units c.fits-units.0 c.from.result c.from-2.result (search rules) (search rules) (search rules)
+returns c = marks-two w16 32 c.args.self.now c.args.units c.fits-units.0 (omega arith) c.from.result c.from-2.result (search rules) (search rules) (search rules)
