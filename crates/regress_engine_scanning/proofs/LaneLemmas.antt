@@ -12,7 +12,8 @@ use Rattle.std.proofs.lemmas.Simd.{bitmask_splat, zip2_splat, zip2_of_maps}
 use Rattle.regress_meaning.specs.Text.{holds}
 use Rattle.regress_engine_scanning.proofs.ByteLemmas.{eq-turned}
 
-map-same : {B : Type 0} (f g : ℕ → B) → ((x : ℕ) → f x ≡ g x) → (xs : List ℕ) → map f xs ≡ map g xs
+-- what is the same of each is so of all
+pub map-same : {B : Type 0} (f g : ℕ → B) → ((x : ℕ) → f x ≡ g x) → (xs : List ℕ) → map f xs ≡ map g xs
 map-same f g same [] = refl
 map-same f g same (x ∷ xs) = ap₂ (λ b bs. b ∷ bs) (same x) (map-same f g same xs)
 

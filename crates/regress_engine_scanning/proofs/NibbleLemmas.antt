@@ -1,9 +1,10 @@
 -- What sixteen bytes are tested for at once.
 use Rattle.std.specs.Prelude.{nat_eq}
-use Rattle.std.proofs.Common.{◌≡◌, ℕ, ◌/◌, ◌%◌, ◌^◌, ◌<◌, Bool, not, cond, List, length, take, get_or, map, replicate, refl, sym, ap, ◌∙◌, arith, w8, Fits, bit_and}
+use Rattle.std.proofs.Common.{◌≡◌, ℕ, ◌/◌, ◌%◌, ◌^◌, ◌<◌, Bool, false, not, cond, List, length, take, get_or, map, replicate, refl, sym, ap, ◌∙◌, arith, w8, Fits, bit_and}
+use Rattle.std.specs.Int.Bits.{and_zero_r}
 use Rattle.std.specs.Simd.Lanes.{zip2, mask_l, top, Each1}
 use Rattle.std.proofs.lemmas.Grind.{same_number_lists}
-use Rattle.std.proofs.lemmas.List.{get_or-map, length-map}
+use Rattle.std.proofs.lemmas.List.{get_or-map, get_or_past, length-map}
 use Rattle.std.proofs.lemmas.Nat.{and_mask}
 use Rattle.std.proofs.lemmas.Simd.{SwzOk, SwzOk-from_below, Each1-from_get_or, Each1-get_or, length-zip2, get_or-zip2, get_or-replicate, get_or-chunk, length-swz_l, get_or-swz_l_below, swz_l, bitmask_splat, map-map}
 
@@ -86,3 +87,9 @@ module _ (low high v : List ℕ) (long : length v ≡ 16) (fit : Each1 (Fits w8)
   pub table-marks : mask_l (map (top 7) (zip2 (λ a b. cond (differs a b) 255 0) (tables_met low high v) (replicate 16 0))) % 2 ^ 64 ≡ mask_l (map (λ b. differs (both b) 0) v)
   table-marks =
       bitmask_splat w8 differs (tables_met low high v) 16 0 length-met (omega arith) ∙ ap mask_l (ap (map (λ x. differs x 0)) met-is ∙ map-map (λ x. differs x 0) both v)
+
+-- the tables end at 256
+pub tables-end : (low high : List ℕ) (b : ℕ) → length high ≡ 16 → ¬ (b < 256) → false ≡ differs (bit_and (get_or low (b % 16) 0) (get_or high (b / 16) 0)) 0
+tables-end low high b size past =
+    let none : get_or high (b / 16) 0 ≡ 0 = get_or_past high (b / 16) 0 (omega (arith, size, past)) in
+    sym (ap (λ x. differs x 0) (ap (bit_and (get_or low (b % 16) 0)) none ∙ and_zero_r (get_or low (b % 16) 0)))

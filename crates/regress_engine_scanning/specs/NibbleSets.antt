@@ -16,5 +16,5 @@ members_contain (Few bytes) b = holds bytes b
 members_contain (Tables tables) b = tables_contain tables b
 
 -- b is a byte of the set
-abbrev pub nibble_set_contains : NibbleSet → ℕ → Bool
-nibble_set_contains set b = members_contain set.members b
+unfoldable pub nibble_set_contains : NibbleSet → ℕ → Bool
+nibble_set_contains set = members_contain set.members

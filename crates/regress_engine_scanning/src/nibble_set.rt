@@ -7,6 +7,7 @@ ghost use Rattle.regress_meaning.specs.Text.{holds};
 ghost use Rattle.regress_front_bytes.specs.Bitmaps.{byte_bitmap_contains};
 ghost use Rattle.regress_engine_scanning.specs.NibbleSets.{nibble_set_contains, tables_contain};
 
+use crate::units::UnitSet;
 use regress_front_bytes::ByteBitmap;
 use std::simd::prelude::*;
 
@@ -44,14 +45,6 @@ fn last_four(set: &ByteBitmap) -> Option<[u8; 4]> {
         }
     }
     last
-}
-
-/// Whether a byte is one of a few.
-fn is_one_of(few: &[u8; 4], byte: u8) -> bool
-    ensures { result ≡ holds few.now byte }
-{
-    let [first, second, third, fourth] = *few;
-    byte == first || byte == second || byte == third || byte == fourth
 }
 
 /// Which of sixteen bytes are one of a few, a bit for each.
@@ -130,6 +123,16 @@ impl NibbleTables {
         self.low[usize::from(byte % 16)] & self.high[usize::from(byte / 16)] != 0
     }
 
+    /// Whether a unit is a member.
+    fn contains_unit(&self, unit: u16) -> bool
+        ensures { result ≡ tables_contain self.now unit }
+    {
+        match u8::try_from(unit) {
+            Ok(byte) => self.contains(byte),
+            Err(_) => false,
+        }
+    }
+
     /// Which of sixteen bytes are members, a bit for each.
     #[inline(always)]
     fn marks(&self, bytes: u8x16) -> u64
@@ -178,12 +181,35 @@ impl NibbleSet {
     }
 
     /// Whether a byte is a member: the set of `b"ab"` has `b'b'`.
+    #[tactic(auto, unfolding(crate::specs::NibbleSets::nibble_set_contains))]
     pub fn contains(&self, byte: u8) -> bool
         ensures { result ≡ nibble_set_contains self.now byte }
     {
         match &self.members {
-            Members::Few(few) => is_one_of(few, byte),
+            Members::Few(few) => UnitSet::contains(few, u16::from(byte)),
             Members::Tables(tables) => tables.contains(byte),
+        }
+    }
+
+    /// Whether a unit is a member: each byte is the unit of the same number.
+    #[tactic(auto, unfolding(crate::specs::NibbleSets::nibble_set_contains))]
+    fn contains_unit(&self, unit: u16) -> bool
+        ensures { result ≡ nibble_set_contains self.now unit }
+    {
+        match &self.members {
+            Members::Few(few) => UnitSet::contains(few, unit),
+            Members::Tables(tables) => tables.contains_unit(unit),
+        }
+    }
+
+    /// The members, where they are at most four.
+    #[tactic(auto, unfolding(crate::specs::NibbleSets::nibble_set_contains))]
+    pub(crate) fn few(&self) -> Option<[u8; 4]>
+        ensures { IfSome result (λ few. (b : ℕ) → nibble_set_contains self.now b ≡ holds few b) }
+    {
+        match &self.members {
+            Members::Few(few) => Some(*few),
+            Members::Tables(_) => None,
         }
     }
 
@@ -193,6 +219,16 @@ impl NibbleSet {
     {
         match text.get(index) {
             Some(byte) => self.contains(*byte),
+            None => false,
+        }
+    }
+
+    /// Whether a unit that is a member stands at an index.
+    pub(crate) fn stands_at_unit(&self, units: &[u16], index: usize) -> bool
+        ensures { result ≡ is_some_and (slice_get units.now index) (nibble_set_contains self.now) }
+    {
+        match units.get(index) {
+            Some(unit) => self.contains_unit(*unit),
             None => false,
         }
     }

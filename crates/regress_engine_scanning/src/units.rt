@@ -11,7 +11,7 @@ use regress_front_bytes::ByteBitmap;
 use std::simd::prelude::*;
 
 /// How many units are tested at once.
-const LANES: usize = 32;
+pub(crate) const LANES: usize = 32;
 
 /// A set of units, tested one by one or many at once: some bytes, each of which is the unit of the same number.
 pub trait UnitSet {
@@ -75,6 +75,28 @@ impl UnitSet for [u8; 3] {
         (units.simd_eq(u16x32::splat(u16::from(first)))
             | units.simd_eq(u16x32::splat(u16::from(second)))
             | units.simd_eq(u16x32::splat(u16::from(third)))).to_bitmask()
+    }
+}
+
+impl UnitSet for [u8; 4] {
+    ghost contains = { holds };
+
+    #[inline(always)]
+    fn contains(&self, unit: u16) -> bool {
+        let [first, second, third, fourth] = *self;
+        unit == u16::from(first)
+            || unit == u16::from(second)
+            || unit == u16::from(third)
+            || unit == u16::from(fourth)
+    }
+
+    #[inline(always)]
+    fn marks(&self, units: u16x32) -> u64 {
+        let [first, second, third, fourth] = *self;
+        (units.simd_eq(u16x32::splat(u16::from(first)))
+            | units.simd_eq(u16x32::splat(u16::from(second)))
+            | units.simd_eq(u16x32::splat(u16::from(third)))
+            | units.simd_eq(u16x32::splat(u16::from(fourth)))).to_bitmask()
     }
 }
 

@@ -12,7 +12,7 @@ returns-then-marked-ne0-clause-least c =
     let a = c.args in
     let one = c.marks.result in
     let other = c.marks-in-loop-from.result in
-    let tells = pair-marks a.self.now a.text.now c.loop-from.from one other (omega arith) c.marks.ensures c.marks-in-loop-from.ensures in
+    let tells = pair-marks a.self.now a.text.now c.loop-from.from 16 one other (omega arith) c.marks.ensures c.marks-in-loop-from.ensures in
     marked-least (λ k. begins_pair a.self.now a.text.now k ≡ true) 16 a.offset c.loop-from.from (bit_and one other) c.loop-from.invariant.low c.loop-from.invariant.none tells
     (omega (arith, c.if-marked-ne0.true)) (omega (arith, and_le_l one other))
 
@@ -21,7 +21,7 @@ returns-then-marked-ne0-clause-inside c =
     let a = c.args in
     let one = c.marks.result in
     let other = c.marks-in-loop-from.result in
-    let tells = pair-marks a.self.now a.text.now c.loop-from.from one other (omega arith) c.marks.ensures c.marks-in-loop-from.ensures in
+    let tells = pair-marks a.self.now a.text.now c.loop-from.from 16 one other (omega arith) c.marks.ensures c.marks-in-loop-from.ensures in
     let found = marked-least (λ k. begins_pair a.self.now a.text.now k ≡ true) 16 a.offset c.loop-from.from (bit_and one other) c.loop-from.invariant.low c.loop-from.invariant.none tells
     (omega (arith, c.if-marked-ne0.true)) (omega (arith, and_le_l one other)) in
     is-there (nibble_set_contains a.self.now.first) a.text.now _ (pair-parts a.self.now a.text.now _ found.1).0
@@ -32,7 +32,7 @@ loop-from-preserved c =
     let one = c.marks.result in
     let other = c.marks-in-loop-from.result in
     let low = c.loop-from.invariant.low in
-    let tells = pair-marks a.self.now a.text.now c.loop-from.from one other (omega arith) c.marks.ensures c.marks-in-loop-from.ensures in
+    let tells = pair-marks a.self.now a.text.now c.loop-from.from 16 one other (omega arith) c.marks.ensures c.marks-in-loop-from.ensures in
     record {
       low = omega (arith, low);
       high = omega arith;
