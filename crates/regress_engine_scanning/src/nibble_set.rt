@@ -145,8 +145,8 @@ impl NibbleTables {
 }
 
 impl NibbleSet {
-    /// The same set, where it has at most four members or two tables can hold it: where the rows of sixteen bytes in it are at
-    /// most eight different ones, as those of ASCII always are. `NibbleSet::new(&ByteBitmap::new(b"ab"))` holds `b'a'` and `b'b'`.
+    /// The same set, where it has at most four members, or two tables can hold it: where the rows of sixteen bytes in it are at most
+    /// eight different ones, as those of ASCII always are. `NibbleSet::new(&ByteBitmap::new(b"ab"))` holds `b'a'` and `b'b'`.
     pub fn new(set: &ByteBitmap) -> Option<NibbleSet>
         ensures { IfSome result (λ tables. (b : ℕ) → b < 256 → nibble_set_contains tables b ≡ byte_bitmap_contains set.now b) }
     {
