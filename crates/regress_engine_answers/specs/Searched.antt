@@ -1,5 +1,5 @@
 -- What a search by a table of answers stands on.
-use Rattle.std.specs.Prelude.{◌≡◌, ◌+◌, ◌*◌, ◌≤◌, ℕ, length, Option, Some, None}
+use Rattle.std.specs.Prelude.{◌≡◌, ◌+◌, ◌*◌, ◌≤◌, ℕ, suc, length, Option, Some, None}
 use Rattle.regress_meaning.specs.Meaning.{Forward}
 use Rattle.regress_engine_input.specs.Views.{View}
 use Rattle.regress_engine_insn.specs.Instructions.{Program}
@@ -16,6 +16,10 @@ pub record IsTold (table : LinearTable) (program : Program) (v : View) (t : Text
   pub right : AreRight (flow_in table) (heights_in table) program v t.answers
   pub exits : AreExitsKnown (flow_in table) (heights_in table) program v t.answers
   pub blank : length t.blank.items ≡ program.groups
+
+-- to work out what is told of a text takes two steps for each address at each offset, one for each direction
+abbrev pub fill_steps : LinearTable → View → ℕ
+fill_steps table v = 2 * (suc (length v.units) * length (heights_in table).order)
 
 -- from where it begins to where it ends
 abbrev pub from_start : ℕ → Option ℕ → Option (ℕ × ℕ)

@@ -1,5 +1,5 @@
 //! How a table of answers is filled: offset by offset, and at each offset by rank.
-ghost use Rattle.std.specs.Prelude.{◌≡◌, ℕ, ◌+◌, ◌-◌, ◌^◌, ◌<◌, ◌≤◌, suc, false, true, IfOk, OnOk, length, slice_get};
+ghost use Rattle.std.specs.Prelude.{◌≡◌, ℕ, ◌+◌, ◌-◌, ◌*◌, ◌^◌, ◌<◌, ◌≤◌, suc, false, true, IfOk, OnOk, length, slice_get};
 ghost use Rattle.regress_engine_code.specs.Standing.{program_of};
 ghost use Rattle.regress_engine_input.specs.Views.{direction_of, reading_of};
 ghost use Rattle.regress_engine_insn.specs.InsnViews.{instruction};
@@ -8,6 +8,7 @@ ghost use Rattle.regress_engine_search.specs.Search.{Suits};
 ghost use Rattle.regress_engine_answers.specs.AnswerTables.{IsSized, exits_by, in_set, told_by};
 ghost use Rattle.regress_engine_answers.specs.Filled.{AreRight, IsFilled};
 ghost use Rattle.regress_engine_linear.specs.Places.{IsAwaited, IsBehind, IsNextPlace, offset_of};
+ghost use Rattle.regress_engine_answers.specs.Searched.{fill_steps};
 ghost use Rattle.regress_engine_answers.specs.Walked.{AreExitsKnown};
 ghost use Rattle.regress_engine_linear.specs.Linear.{IsLinear, too_long};
 ghost use Rattle.regress_engine_linear.specs.LinearViews.{flow_in, heights_in};
@@ -106,7 +107,7 @@ impl<'a, Input: ExecutorInput> Answering<'a, Input> {
         self.work_at(answers, forward, at, offset)
     }
 
-    /// Works out all addresses that are read so at an offset, the lowest rank first.
+    /// Works out all addresses that are read so at an offset, the lowest rank first. It counts a step for each address.
     fn fill_offset(
         &self,
         table: &LinearTable,
@@ -114,6 +115,7 @@ impl<'a, Input: ExecutorInput> Answering<'a, Input> {
         forward: bool,
         is_place: bool,
         offset: usize,
+        steps: &mut usize,
     ) -> Result<(), AllocError>
         requires suits { Suits (program_of self.now.program.now) (Input.view self.now.input) }
         requires groups { length self.now.groups.now ≡ (program_of self.now.program.now).groups }
@@ -127,8 +129,10 @@ impl<'a, Input: ExecutorInput> Answering<'a, Input> {
         ensures sized { OnOk result (IsSized (program_of self.now.program.now) answers.new) }
         ensures filled { OnOk result (IsFilled (flow_in table.now) (heights_in table.now) (program_of self.now.program.now) (Input.view self.now.input) answers.new forward
             (length (heights_in table.now).order) offset) }
+        ensures counted { OnOk result (steps.new ≤ steps.old + length (heights_in table.now).order) }
     {
         for rank in 0..table.count() {
+            *steps = steps.saturating_add(1);
             self.fill_at(table, answers, forward, is_place, rank, offset)?;
         }
         Ok(())
@@ -153,6 +157,7 @@ impl<'a, Input: ExecutorInput> Answering<'a, Input> {
         forward: bool,
         offset: usize,
         place: &mut usize,
+        steps: &mut usize,
     ) -> Result<(), AllocError>
         requires suits { Suits (program_of self.now.program.now) (Input.view self.now.input) }
         requires groups { length self.now.groups.now ≡ (program_of self.now.program.now).groups }
@@ -167,21 +172,24 @@ impl<'a, Input: ExecutorInput> Answering<'a, Input> {
             (length (heights_in table.now).order) offset) }
         ensures awaited { OnOk result ((q : ℕ) → q ≤ length (Input.view self.now.input).units → IsBehind (Input.view self.now.input) forward offset q
             → IsAwaited (Input.view self.now.input) (direction_of forward) q place.new) }
+        ensures counted { OnOk result (steps.new ≤ steps.old + length (heights_in table.now).order) }
     {
         let is_place = offset == *place;
-        self.fill_offset(table, answers, forward, is_place, offset)?;
+        self.fill_offset(table, answers, forward, is_place, offset, steps)?;
         if is_place {
             *place = self.next_place(forward, *place);
         }
         Ok(())
     }
 
-    /// Works out all that is read forward, or backward, at each offset of the text: against the direction, so that what is ahead is told.
+    /// Works out all that is read forward, or backward, at each offset of the text: against the direction, so that what is ahead is told. It
+    /// counts a step for each address at each offset.
     fn fill_way(
         &self,
         table: &LinearTable,
         answers: &mut Answers,
         forward: bool,
+        steps: &mut usize,
     ) -> Result<(), AllocError>
         requires suits { Suits (program_of self.now.program.now) (Input.view self.now.input) }
         requires groups { length self.now.groups.now ≡ (program_of self.now.program.now).groups }
@@ -193,13 +201,14 @@ impl<'a, Input: ExecutorInput> Answering<'a, Input> {
         ensures sized { OnOk result (IsSized (program_of self.now.program.now) answers.new) }
         ensures filled { OnOk result (IsFilled (flow_in table.now) (heights_in table.now) (program_of self.now.program.now) (Input.view self.now.input) answers.new forward
             (length (heights_in table.now).order) (offset_of forward (length (Input.view self.now.input).units) (length (Input.view self.now.input).units))) }
+        ensures counted { OnOk result (steps.new ≤ steps.old + suc (length (Input.view self.now.input).units) * length (heights_in table.now).order) }
     {
         let last = self.text_len();
         let mut place = if forward { last } else { 0 };
         let mut step = 0;
         loop {
             let offset = if forward { last - step } else { step };
-            self.fill_next(table, answers, forward, offset, &mut place)?;
+            self.fill_next(table, answers, forward, offset, &mut place, steps)?;
             if step == last {
                 return Ok(());
             }
@@ -207,18 +216,25 @@ impl<'a, Input: ExecutorInput> Answering<'a, Input> {
         }
     }
 
-    /// Works out for each address and each offset of the text whether runs from there have an answer. It errs where memory is refused.
-    pub(crate) fn answers(&self, alloc: Global, table: &LinearTable) -> Result<Answers, AllocError>
+    /// Works out for each address and each offset of the text whether runs from there have an answer. It counts two steps for each, one for
+    /// each direction. It errs where memory is refused.
+    pub(crate) fn answers(
+        &self,
+        alloc: Global,
+        table: &LinearTable,
+        steps: &mut usize,
+    ) -> Result<Answers, AllocError>
         requires suits { Suits (program_of self.now.program.now) (Input.view self.now.input) }
         requires groups { length self.now.groups.now ≡ (program_of self.now.program.now).groups }
         requires linear { IsLinear (flow_in table.now) (heights_in table.now) (program_of self.now.program.now) }
         requires short { suc (length (Input.view self.now.input).units) < too_long }
         ensures right { IfOk result (AreRight (flow_in table.now) (heights_in table.now) (program_of self.now.program.now) (Input.view self.now.input)) }
         ensures exits { IfOk result (AreExitsKnown (flow_in table.now) (heights_in table.now) (program_of self.now.program.now) (Input.view self.now.input)) }
+        ensures counted { OnOk result (steps.new ≤ steps.old + fill_steps table.now (Input.view self.now.input)) }
     {
         let mut answers = Answers::empty(alloc, self.program.insns().len())?;
-        self.fill_way(table, &mut answers, false)?;
-        self.fill_way(table, &mut answers, true)?;
+        self.fill_way(table, &mut answers, false, steps)?;
+        self.fill_way(table, &mut answers, true, steps)?;
         Ok(answers)
     }
 }

@@ -1,5 +1,5 @@
 //! Searches of a linear program in a text by a table of answers.
-ghost use Rattle.std.specs.Prelude.{◌≡◌, ◌-◌, ◌^◌, ◌<◌, suc, IfOk, length, map};
+ghost use Rattle.std.specs.Prelude.{◌≡◌, ◌-◌, ◌^◌, ◌<◌, ◌+◌, ◌≤◌, suc, IfOk, OnOk, length, map};
 ghost use Rattle.regress_engine_code.specs.Standing.{program_of};
 ghost use Rattle.regress_engine_input.specs.Views.{input_of, reading_of};
 ghost use Rattle.regress_engine_runs.specs.Meets.{IsAtPlace};
@@ -7,7 +7,7 @@ ghost use Rattle.regress_engine_search.specs.Answering.{IsAnswer, IsFound};
 ghost use Rattle.regress_engine_search.specs.StateViews.{marks_of};
 ghost use Rattle.regress_engine_linear.specs.Linear.{IsLinear, too_long};
 ghost use Rattle.regress_engine_linear.specs.LinearViews.{flow_in, heights_in};
-ghost use Rattle.regress_engine_answers.specs.Searched.{IsTold, StepsTo, from_start};
+ghost use Rattle.regress_engine_answers.specs.Searched.{IsTold, StepsTo, fill_steps, from_start};
 
 use crate::answers::{Answering, Answers};
 use crate::places::next_place;
@@ -36,21 +36,25 @@ fn blank_groups(alloc: Global, count: usize) -> Result<Vec<GroupData<usize>>, Al
 }
 
 impl TextTable {
-    /// The table of a text. It errs where memory is refused: it takes a bit or two for each address and each offset.
+    /// The table of a text. It counts two steps for each address and each offset. It errs where memory is refused: it takes a bit or two for
+    /// each.
     ///
     /// Asks that the program is linear, as its table says, and that the text has no more units than there may be.
     ///
     /// ```rust
-    /// let told = TextTable::of(alloc, &table, &context)?;
+    /// let mut steps = 0;
+    /// let told = TextTable::of(alloc, &table, &context, &mut steps)?;
     /// ```
     pub fn of<Input: ExecutorInput>(
         alloc: Global,
         table: &LinearTable,
         context: &SearchContext<'_, Input>,
+        steps: &mut usize,
     ) -> Result<TextTable, AllocError>
         requires linear { IsLinear (flow_in table.now) (heights_in table.now) (program_of context.now.program.now) }
         requires short { suc (length (Input.view context.now.input).units) < too_long }
-        ensures { IfOk result (IsTold table.now (program_of context.now.program.now) (Input.view context.now.input)) }
+        ensures told { IfOk result (IsTold table.now (program_of context.now.program.now) (Input.view context.now.input)) }
+        ensures counted { OnOk result (steps.new ≤ steps.old + fill_steps table.now (Input.view context.now.input)) }
     {
         let blank = blank_groups(alloc, context.program.groups() as usize)?;
         let answering = Answering {
@@ -58,7 +62,7 @@ impl TextTable {
             input: context.input,
             groups: &blank,
         };
-        let answers = answering.answers(alloc, table)?;
+        let answers = answering.answers(alloc, table, steps)?;
         Ok(TextTable { answers, blank })
     }
 

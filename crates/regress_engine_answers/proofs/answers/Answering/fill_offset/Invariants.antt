@@ -1,3 +1,4 @@
+use Rattle.std.proofs.Common.{◌+◌, ◌≤◌}
 use Rattle.regress_engine_code.specs.Standing.{program_of}
 use Rattle.regress_engine_answers.specs.AnswerTables.{IsSized}
 use Rattle.regress_engine_answers.specs.Filled.{IsFilled}
@@ -9,4 +10,5 @@ abbrev pub invariant-loop-rank : goal.invariant-loop-rank
 invariant-loop-rank g l = record {
   sized : IsSized (program_of l.self.program.now) l.answers;
   filled : IsFilled (flow_in l.table) (heights_in l.table) (program_of l.self.program.now) (g.Input.InputIndexer.view l.self.input) l.answers l.forward l.rank l.offset;
+  counted : l.steps ≤ l.initial.steps + l.rank;
 }

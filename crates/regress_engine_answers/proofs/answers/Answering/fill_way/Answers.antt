@@ -21,6 +21,7 @@ loop-offset-init g c =
     record {
       last = c.text_len-last.ensures;
       step = omega arith;
+      counted = omega arith;
       sized = c.requires.sized;
       filled = subst (λ n. IsFilled flow h program v c.args.answers.now c.args.forward 0 (offset_of c.args.forward n 0)) (sym c.text_len-last.ensures) c.requires.filled;
       awaited = first-awaited v all c.args.forward last c.if-forward.place c.text_len-last.ensures
@@ -62,6 +63,10 @@ loop-offset-preserved g c =
     record {
       last = known.last;
       step = omega (arith, less);
+      counted =
+          let before = known.counted in
+          let more = c.in_ok-fill_next.ensures.counted in
+          omega (arith, before, more);
       sized = c.in_ok-fill_next.ensures.sized;
       filled = next-offset flow h v all program c.requires.suits c.requires.linear c.requires.short c.fill_next.new.answers c.args.forward (offset_of c.args.forward last step)
           (offset_of c.args.forward last (step + 1)) low behind

@@ -1,4 +1,4 @@
-use Rattle.std.proofs.Common.{◌≡◌, ◌-◌, ◌≤◌, length}
+use Rattle.std.proofs.Common.{◌≡◌, ◌+◌, ◌-◌, ◌*◌, ◌≤◌, length}
 use Rattle.regress_engine_code.specs.Standing.{program_of}
 use Rattle.regress_engine_input.specs.Views.{direction_of}
 use Rattle.regress_engine_answers.specs.AnswerTables.{IsSized}
@@ -15,6 +15,7 @@ invariant-loop-offset g l = record {
   sized : IsSized (program_of l.self.program.now) l.answers;
   filled : IsFilled (flow_in l.table) (heights_in l.table) (program_of l.self.program.now) (g.Input.InputIndexer.view l.self.input) l.answers l.forward 0 (offset_of l.forward l.last l.step);
   awaited : IsAwaited (g.Input.InputIndexer.view l.self.input) (direction_of l.forward) (offset_of l.forward l.last l.step) l.place;
+  counted : l.steps ≤ l.initial.steps + l.step * length (heights_in l.table).order;
 }
 
 -- how many offsets are left
