@@ -65,7 +65,8 @@ fn told_matches<Input: ExecutorInput>(
     requires short { suc (length (Input.view input).units) < too_long }
 {
     let context = SearchContext::new(program, input);
-    let text_table = TextTable::of(alloc, table, &context)?;
+    let mut steps = 0;
+    let text_table = TextTable::of(alloc, table, &context, &mut steps)?;
     let mut told = String::new(alloc);
     let mut next = Some(0);
     for _ in 0..=context.text_len() {
