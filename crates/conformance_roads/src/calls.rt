@@ -15,7 +15,7 @@ use std::alloc::{AllocError, Global};
 type Copying<'t> = PikeVMExecutor<'t, Utf8Input<'t, 't>>;
 
 /// Adds a match, parted from one that stands before it.
-fn push_match(told: &mut String, found: &Match) -> Result<(), AllocError> {
+pub(crate) fn push_match(told: &mut String, found: &Match) -> Result<(), AllocError> {
     if !told.is_empty() {
         told.push('|')?;
     }
@@ -149,11 +149,12 @@ pub(crate) fn bounded_matches(
     regex: &Regex,
     text: &str,
     start: usize,
+    steps: usize,
 ) -> Result<String, AllocError> {
     if !is_start(text, start) {
         return String::from_str(alloc, "no start");
     }
-    let Ok(matches) = regex.within(usize::MAX).find_from(text, start) else {
+    let Ok(matches) = regex.within(steps).find_from(text, start) else {
         return Err(AllocError);
     };
     let mut told = String::new(alloc);

@@ -4,6 +4,7 @@
 mod calls;
 mod report;
 mod running;
+mod told;
 mod trying;
 mod works;
 

@@ -7,6 +7,7 @@ use crate::calls::{
     utf16_matches, whole_text,
 };
 use crate::report::{Report, told_error};
+use crate::told::{try_table, try_table_of_units};
 use crate::works::{
     all_expanded, all_replaced, all_replaced_with, all_templated, escaped, expanded, first_parts,
     names, parts, refusal, replaced, replaced_with, syntax_refusal, templated,
@@ -89,7 +90,7 @@ fn try_text(
     report.compare(
         "find_from within usize::MAX steps",
         expected,
-        bounded_matches(alloc, regex, text, start),
+        bounded_matches(alloc, regex, text, start, usize::MAX),
     )?;
     report.compare(
         "find by undoing",
@@ -115,6 +116,30 @@ fn try_text(
         expected,
         copying_ascii_matches(alloc, regex, text, start),
     )
+}
+
+/// Tries a pattern that is linear: within as many steps as are enough, and by a table of the text.
+fn try_linear(
+    report: &mut Report,
+    alloc: Global,
+    regex: &Regex,
+    text: &str,
+    start: usize,
+    expected: &str,
+) -> Result<(), AllocError> {
+    let Ok(mut regex) = regex.try_clone() else {
+        return Err(AllocError);
+    };
+    regex.learn_linear();
+    let Some(steps) = regex.linear_steps(text.len()) else {
+        return Ok(());
+    };
+    let told = bounded_matches(alloc, &regex, text, start, steps);
+    report.compare("find_from within enough steps", expected, told)?;
+    if start > 0 {
+        return Ok(());
+    }
+    try_table(report, alloc, &regex, text, expected)
 }
 
 /// Of what is left of a list, its first item; none where there is none.
@@ -256,6 +281,21 @@ fn try_units(
     }
 }
 
+/// Tries searches from the beginning of 16-bit units by a table of them, where the pattern is linear.
+fn try_linear_units(
+    report: &mut Report,
+    alloc: Global,
+    regex: &Regex,
+    searched: &InUnits<'_>,
+) -> Result<(), AllocError> {
+    if searched.start > 0 {
+        return Ok(());
+    }
+    let utf16 = searched.utf16.as_str();
+    let ucs2 = searched.ucs2.as_deref();
+    try_table_of_units(report, alloc, regex, searched.units, utf16, ucs2)
+}
+
 /// Tries searches from the beginning of 16-bit units by the executor that copies.
 fn try_copying_units(
     report: &mut Report,
@@ -336,6 +376,7 @@ fn try_matches(
         )?;
     }
     try_text(report, alloc, regex, text, *start, list.as_str())?;
+    try_linear(report, alloc, regex, text, *start, list.as_str())?;
     if points.len() <= SHORT_PATTERN {
         try_tails(report, alloc, regex, text, *start, items)?;
     }
@@ -348,6 +389,7 @@ fn try_matches(
         ucs2,
     };
     try_units(report, alloc, regex, &searched)?;
+    try_linear_units(report, alloc, regex, &searched)?;
     try_copying_units(
         report,
         alloc,
@@ -385,6 +427,7 @@ fn try_unit_row(
     };
     let program = units_program(alloc, &row.pattern, flags, tables);
     try_units(report, alloc, regex, &searched)?;
+    try_linear_units(report, alloc, regex, &searched)?;
     try_copying_units(report, alloc, program, &searched)
 }
 

@@ -1,16 +1,22 @@
 //! What is remembered of failures: a table that tells nothing, and a memory that learns nothing, are proved too, and only slower.
+ghost use Rattle.std.specs.Prelude.{◌≡◌, false, IfOk};
+ghost use Rattle.regress_engine_code.specs.Standing.{program_of};
+ghost use Rattle.regress_engine_exec.specs.Turned.{TellsLinear};
 
 use crate::code::program;
 use crate::found::undoing_in_utf8;
 use crate::parsed::rewritten;
-use regress_engine_code::{emit, emit_units};
-use regress_engine_exec::BacktrackExecutor;
+use regress_engine_code::{CompiledRegex, emit, emit_units};
+use regress_engine_exec::{BacktrackExecutor, Backtracker, Scratch, linear_steps};
 use regress_engine_inputs::{Utf8Input, Utf16Input};
+use regress_engine_linear::LinearTable;
 use regress_engine_memory::{Failures, FlowTable};
+use regress_engine_search::StepsLeft;
 use regress_engine_undo::Spot;
 use regress_front_core::LoopData;
 use regress_front_tables::Tables;
-use std::alloc::Global;
+use regress_match::Range;
+use std::alloc::{AllocError, Global};
 use std::test::Fail;
 
 /// A pattern, and at how many addresses of its program failures may be learned: from there on no group is referred to.
@@ -278,6 +284,86 @@ fn and_over_units(rt: HostRuntime) -> Result<(), Fail> {
         let mut text = piece.repeat(rt.alloc(), *count)?;
         text.push_str(end)?;
         assert!(rt; first_match_in_units(rt.alloc(), pattern, flags, text.as_str())? == *expected);
+    }
+    Ok(())
+}
+
+/// The table by which a program is linear, where it is.
+fn linear_table(alloc: Global, program: &CompiledRegex) -> Result<Option<LinearTable>, AllocError>
+    ensures { IfOk result (TellsLinear (program_of program.now)) }
+{
+    LinearTable::of(alloc, program.insns(), program.loops() as usize)
+}
+
+/// The ranges of all matches of a program in a text, within as many steps as are enough; `None` where it isn't linear.
+fn ranges_within(
+    alloc: Global,
+    program: &CompiledRegex,
+    text: &str,
+) -> Result<Option<Vec<Range>>, Fail>
+    requires { program.now.units ≡ false }
+{
+    let Some(table) = linear_table(alloc, program)? else {
+        return Ok(None);
+    };
+    let Some(steps) = linear_steps(&table, text.len()) else {
+        return Ok(None);
+    };
+    let input = Utf8Input::new(text, program.flags().is_unicode(), program.tables());
+    let (scratch, budget) = (Scratch::new(alloc), StepsLeft(steps));
+    let mut executor = Backtracker::with_budget(
+        alloc,
+        program,
+        Some(&table),
+        input,
+        scratch,
+        budget,
+    );
+    let mut position = executor.initial_position(0);
+    let mut ranges = Vec::new(alloc);
+    for _ in 0..=text.len() {
+        let Some(found) = executor.step(&mut position) else {
+            break;
+        };
+        ranges.push(found?.range())?;
+    }
+    Ok(Some(ranges))
+}
+
+#[test]
+fn linear_ones_are_searched_in_enough_steps(rt: HostRuntime) -> Result<(), Fail> {
+    let tables = Tables::small(rt.alloc())?;
+    let mut linear: usize = 0;
+    for (pattern, flags, piece, count, end, expected) in HOSTILE {
+        let mut text = piece.repeat(rt.alloc(), *count)?;
+        text.push_str(end)?;
+        let program = emit(rt.alloc(), &rewritten(rt.alloc(), pattern, flags, &tables)?)?;
+        if let Some(ranges) = ranges_within(rt.alloc(), &program, text.as_str())? {
+            assert!(rt; ranges.first().map(|r| (r.start, r.end)) == *expected);
+            linear = linear.saturating_add(1);
+        }
+    }
+    assert!(rt; linear > 25);
+    Ok(())
+}
+
+/// A linear pattern that is looked for by a byte behind a run, what a text has very often, what ends that, and how many matches there are.
+const BEHIND_RUNS: &[(&str, &str, &str, usize)] = &[
+    (r"[A-Za-z]+@[a-z]+\.com", "a", "@b", 0),
+    (r"[A-Za-z]+@[a-z]+\.com", "a", "@b a@b.com", 1),
+    (r"\d+(?:\.\d+)?%", "1", "", 0),
+    (r"\d+(?:\.\d+)?%", "1", ".x 1% 1.5%", 2),
+];
+
+#[test]
+fn bytes_behind_runs_are_looked_for_in_enough_steps(rt: HostRuntime) -> Result<(), Fail> {
+    let tables = Tables::small(rt.alloc())?;
+    for (pattern, piece, end, expected) in BEHIND_RUNS {
+        let mut text = piece.repeat(rt.alloc(), 200_000)?;
+        text.push_str(end)?;
+        let program = emit(rt.alloc(), &rewritten(rt.alloc(), pattern, "", &tables)?)?;
+        let ranges = ranges_within(rt.alloc(), &program, text.as_str())?;
+        assert!(rt; ranges.map(|r| r.len()) == Some(*expected));
     }
     Ok(())
 }

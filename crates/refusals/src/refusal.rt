@@ -1,6 +1,6 @@
 //! Why a piece of work gives no answer.
 
-use regress::{Error, TableError};
+use regress::{Error, SearchError, TableError};
 use std::alloc::{AllocError, AllocFailed};
 
 /// Why a piece of work gives no answer.
@@ -29,6 +29,15 @@ impl From<Error> for Refusal {
         match error {
             Error::OutOfMemory => Refusal::Memory,
             _ => Refusal::Other,
+        }
+    }
+}
+
+impl From<SearchError> for Refusal {
+    fn from(error: SearchError) -> Refusal {
+        match error {
+            SearchError::OutOfMemory => Refusal::Memory,
+            SearchError::TooManySteps => Refusal::Other,
         }
     }
 }

@@ -22,7 +22,7 @@ fn tell_items<I: Iterator<Item = Result<Match, Error>>>(
     requires ends { IsFinite (I.remaining items) }
 {
     for item in items {
-        tell_item(told, item)?;
+        tell_item(told, item.map_err(Refusal::from))?;
     }
     Ok(())
 }
@@ -41,6 +41,17 @@ fn tell_start<I: Iterator<Item = Result<Match, Error>>>(
 /// Tells all matches by the library's calls.
 pub(crate) fn tell_all(told: &mut String, regex: &Regex, text: &str) -> Result<(), Refusal> {
     Ok(tell_items(told, regex.find_iter(text)?)?)
+}
+
+/// Tells all matches of a linear pattern within as many steps as are enough.
+fn tell_within(told: &mut String, regex: &Regex, text: &str) -> Result<(), Refusal> {
+    let Some(steps) = regex.linear_steps(text.len()) else {
+        return Err(Refusal::Other);
+    };
+    for item in regex.within(steps).find_iter(text)? {
+        tell_item(told, item.map_err(Refusal::from))?;
+    }
+    Ok(())
 }
 
 /// Tells all matches by the calls for ASCII.
@@ -103,6 +114,7 @@ fn tell_whether(told: &mut String, regex: &Regex, text: &str) -> Result<(), Refu
 #[derive(Clone, Copy)]
 enum Road {
     Library,
+    Within,
     Ascii,
     Utf16,
     Ucs2,
@@ -117,6 +129,7 @@ enum Road {
 fn road_by(name: &str) -> Option<Road> {
     match name {
         "find_iter" => Some(Road::Library),
+        "within" => Some(Road::Within),
         "find_iter_ascii" => Some(Road::Ascii),
         "find_from_utf16" => Some(Road::Utf16),
         "find_from_ucs2" => Some(Road::Ucs2),
@@ -142,6 +155,7 @@ impl Work for Searching<'_> {
     fn work(&mut self, told: &mut String) -> Result<(), Refusal> {
         match self.road {
             Road::Library => tell_all(told, self.regex, self.text),
+            Road::Within => tell_within(told, self.regex, self.text),
             Road::Ascii => tell_ascii(told, self.regex, self.text),
             Road::Utf16 => tell_utf16(told, self.regex, self.units),
             Road::Ucs2 => tell_ucs2(told, self.regex, self.units),
@@ -160,7 +174,10 @@ pub(crate) fn try_row(alloc: Global, row: &Row, told: &mut String) -> Result<boo
         return Ok(false);
     };
     let tables = Tables::small(alloc)?;
-    let regex = compiled(alloc, row, &tables)?;
+    let mut regex = compiled(alloc, row, &tables)?;
+    if let Road::Within = road {
+        regex.learn_linear();
+    }
     let units = units_of(alloc, row.text.as_str())?;
     let work = Searching {
         road,

@@ -32,10 +32,10 @@ pub(crate) fn tell_slots(told: &mut String, slots: &[Option<Range>]) -> Result<(
 }
 
 /// Tells one item of an iteration, with `|` behind it: a match, or why there is none.
-pub(crate) fn tell_item(told: &mut String, item: Result<Match, Error>) -> Result<(), AllocError> {
+pub(crate) fn tell_item(told: &mut String, item: Result<Match, Refusal>) -> Result<(), AllocError> {
     match item {
         Ok(found) => tell_match(told, &found)?,
-        Err(error) => tell_refusal(told, Refusal::from(error))?,
+        Err(refusal) => tell_refusal(told, refusal)?,
     }
     told.push('|')
 }
@@ -46,7 +46,7 @@ pub(crate) fn tell_first(
     found: Option<Result<Match, Error>>,
 ) -> Result<(), AllocError> {
     match found {
-        Some(item) => tell_item(told, item),
+        Some(item) => tell_item(told, item.map_err(Refusal::from)),
         None => Ok(()),
     }
 }
