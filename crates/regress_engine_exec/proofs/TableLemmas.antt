@@ -66,14 +66,14 @@ enough-by-table table v at =
 
 -- where nothing is found nothing is ahead
 pub none-ahead : (table : Option LinearTable) (units at before after : ℕ) → after ≤ before + most_walked table None → after + ahead table units None ≤ before + ahead table units (Some at)
-none-ahead None units at before after low = low
+none-ahead None units at before after low = omega (arith, low)
 none-ahead (Some table) units at before after low = omega (arith, low)
 
 -- what is so where a search succeeds is so behind a step, unless that erred
-pub unless-err : {T E P : Type 0} (x : Result (Option T) E) (r : Option (Result T E)) → r ≡ result_transpose x → OnOk x P → UnlessErr r P
-unless-err (Ok None) r is known = rw is known
-unless-err (Ok (Some m)) r is known = rw is known
-unless-err (Err e) r is known = rw is known
+pub unless-err : {T E : Type 0} (P : Type 0) (x : Result (Option T) E) (r : Option (Result T E)) → r ≡ result_transpose x → OnOk x P → UnlessErr r P
+unless-err P (Ok None) r is known = rw is known
+unless-err P (Ok (Some m)) r is known = rw is known
+unless-err P (Err e) r is known = rw is known
 
 module _ (program : Program) (v : View) (i : Item) (ordered : i.start ≤ i.end) where
   -- a search goes on no earlier than where the item ends

@@ -2,6 +2,7 @@
 use mathlib.Core.HLevel.{Π_prop, ×_prop, Σ_prop_path}
 use Rattle.std.specs.Coded.{codes, le_prop}
 use Rattle.std.specs.Prelude.{IfSome, List, is_some, length, map, nat_lt, Result, Ok, Err, IfOk}
+use Rattle.std.specs.Result.{IfErr, IsErrAnd}
 use Rattle.std.proofs.Common.{◌≡◌, ℕ, suc, ◌^◌, ◌-◌, ◌<◌, ◌≤◌, ◌⊎◌, inl, inr, Bool, true, false, [], ◌∷◌, Option, Some, None, refl, sym, ◌∙◌, subst, arith}
 use Rattle.std.proofs.Math.Logic.{∥∥₁_elim, ∥∥₁_map}
 use Rattle.std.proofs.lemmas.Bool.{and_parts, cases_lt, ltb-true}
@@ -311,14 +312,14 @@ short-told table v units same fits = let low : units < most_told = ltb-true unit
 
 -- what is made of the table of a linear program is turned to
 pub turns-made : (program : Program) (v : View) (table : Option LinearTable) (o : Option Turning) (units : ℕ) → units ≡ length v.units → TellsLinear program table
-    → IfSome o (λ t. (table ≡ Some t.table.now) × (fits_told t.table.now units ≡ true)) → IfSome o (λ t. t.told ≡ None) → ∥ IfSome o (Turns program v) ∥₁
+    → IfSome o (λ t. (table ≡ Some t.table.now) × (fits_told t.table.now units ≡ true)) → IfSome o (λ t. (t.told ≡ None) × (t.steps ≡ 0)) → ∥ IfSome o (Turns program v) ∥₁
 turns-made program v table None units same tells made untold = ∣ tt ∣₁
 turns-made program v table (Some t) units same tells (is, fits) none =
     let given : TellsLinear program (Some t.table.now) = subst (TellsLinear program) is tells in
     ∥∥₁_map given (λ linear. record {
       linear = linear;
       short = short-told t.table.now v units same fits;
-      told = subst (λ o. IfSome o (IsTold t.table.now program v)) (sym none) tt;
+      told = subst (λ o. IfSome o (IsTold t.table.now program v)) (sym none.0) tt;
     })
 
 -- ---- where nothing is counted
@@ -340,3 +341,8 @@ run-spends program v searchable at place b =
 pub if-found : {T E X : Type 0} (r : Result T E) → X → IfOk r (λ _. X)
 if-found (Ok x) h = h
 if-found (Err e) h = tt
+
+-- an error that came of refused memory says nothing of steps
+pub if-refused : {T E : Type 0} {Gives Over : E → Type 0} (P : Type 0) (r : Result T E) → IsErrAnd r Gives → ((e : E) → Gives e → Over e → ⊥) → IfErr r (λ e. Over e → P)
+if-refused P (Ok x) gives never = tt
+if-refused P (Err e) gives never = λ over. absurd (never e gives over)

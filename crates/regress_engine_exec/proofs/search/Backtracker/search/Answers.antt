@@ -7,7 +7,7 @@ use Rattle.regress_engine_attempt.specs.Attempts.{Remembers, world_of}
 use Rattle.regress_engine_search.specs.Search.{IsSearchable}
 use Rattle.regress_engine_attempt.proofs.RememberLemmas.{remembers-anyway}
 use Rattle.regress_engine_exec.specs.Counting.{CountsSearch}
-use Rattle.regress_engine_exec.proofs.TurnLemmas.{if-found, search-spends}
+use Rattle.regress_engine_exec.proofs.TurnLemmas.{if-found, if-refused, search-spends}
 use Rattle.regress_engine_exec.proofs.search.Backtracker.search.Goals as goal
 
 pub first_from-requires-clause-so : goal.first_from-requires-clause-so
@@ -50,4 +50,5 @@ returns-then-has_turned-clause-counted g c =
     (g.B.Budget.left c.search_told.new.self.budget) (ap g.B.Budget.left (c.search_told.ensures.budget ∙ c.search_by_tables.ensures.budget ∙ c.search_in_time.ensures.budget)))
 
 pub returns-in_err-ended-clause-stopped : goal.returns-in_err-ended-clause-stopped
-returns-in_err-ended-clause-stopped g c = ?
+returns-in_err-ended-clause-stopped g c =
+    if-refused _ c.from_residual-in_err-ended.result c.from_residual-in_err-ended.ensures.1 (λ e gives over. g.met.B.SearchBudget.refused e gives over)
