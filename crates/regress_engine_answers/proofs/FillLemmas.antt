@@ -34,7 +34,7 @@ use Rattle.regress_engine_linear.specs.RankTables.{Heights, forward_at, rank_at,
 use Rattle.regress_engine_answers.specs.declared.answers.Answers.{Answers}
 use Rattle.regress_engine_linear.proofs.AnswerLemmas.{answers-by, look-answers}
 use Rattle.regress_engine_linear.proofs.Beyond.{leads-beyond}
-use Rattle.regress_engine_answers.proofs.ExitAnswers.{exits-told}
+use Rattle.regress_engine_linear.proofs.ExitAnswers.{exits-told}
 use Rattle.regress_engine_linear.proofs.Formulas.{answers-are, or-none}
 use Rattle.regress_engine_linear.proofs.Within.{each-lies}
 use Rattle.regress_engine_answers.proofs.WorkLemmas.{exits-value-is, reads-there}

@@ -1,6 +1,6 @@
-pub mod ExitAnswers
 pub mod WorkLemmas
 pub mod FillLemmas
 pub mod FillingWays
 pub mod WalkLemmas
+pub mod Walks
 pub mod Untold

@@ -1,25 +1,27 @@
 -- The way along what is told to have an answer.
-use Rattle.std.specs.Prelude.{◌≡◌, ℕ, suc, ◌-◌, ◌<◌, ◌≤◌, Bool, true, false, List, [], ◌∷◌, length, Option, Some, None, if◌then◌else◌, get_or, nat_le, nat_lt, slice_get, slice_set}
+use Rattle.std.specs.Prelude.{◌≡◌, ℕ, suc, ◌+◌, ◌-◌, ◌*◌, ◌<◌, ◌≤◌, Bool, true, false, not, List, [], ◌∷◌, length, reverse, Option, Some, None, if◌then◌else◌, get_or, nat_le, nat_lt, slice_get, slice_set}
 use Rattle.regress_meaning.specs.Meaning.{Direction, Forward}
 use Rattle.regress_meaning.specs.Inputs.{Input}
-use Rattle.regress_front_nodes.specs.Trees.{Submatch}
-use Rattle.regress_engine_input.specs.Views.{View, input_of, reading_of}
+use Rattle.regress_front_nodes.specs.Trees.{Submatch, lookaround, atomic}
+use Rattle.regress_engine_input.specs.Views.{View, direction_of, input_of, reading_of}
 use Rattle.regress_engine_insn.specs.Instructions.{LoopFields, Instruction, Program, Stands}
 use Rattle.regress_engine_insn.specs.Instructions as code
 use Rattle.regress_engine_runs.specs.Items.{Answers as EndsIn}
 use Rattle.regress_engine_runs.specs.Meets.{IsAtPlace}
-use Rattle.regress_engine_runs.specs.Runs.{Run, advance, after_times, fields_of, one_by_one}
-use Rattle.regress_engine_runs.specs.States.{Marks, Whole, begun, ended, unset}
+use Rattle.regress_engine_runs.specs.Runs.{Run, advance, after_times, fields_of, one_by_one, room}
+use Rattle.regress_engine_runs.specs.States.{Marks, Whole, begun, ended, mixed, unset}
 use Rattle.regress_engine_runs.specs.UndoStack.{whole}
 use Rattle.regress_engine_memory.specs.Flow.{Flow, IsFlow}
 use Rattle.regress_engine_linear.specs.Ranks.{AreRanked, AreRunning, AreUnboundedOrOnce}
-use Rattle.regress_engine_linear.specs.RankTables.{ArePlaced, Heights, forward_at, ranking_of}
+use Rattle.regress_engine_linear.specs.RankTables.{ArePlaced, Heights, forward_at, rank_at, ranking_of}
 use Rattle.regress_engine_linear.specs.Answered.{ReadsAlong, one_at}
 use Rattle.regress_engine_answers.specs.AnswerTables.{exits_by, told_by}
-use Rattle.regress_engine_linear.specs.Linear.{LeavesGroups}
+use Rattle.regress_engine_linear.specs.Linear.{AreLoopFree, LeavesGroups}
 use Rattle.regress_engine_answers.specs.Filled.{AreRight, IsExitRight}
 use Rattle.regress_engine_answers.specs.declared.answers.Answers.{Answers}
-use Rattle.regress_engine_answers.specs.declared.walking.Station.{Station}
+use Rattle.regress_engine_answers.specs.declared.walker.Frame.{Frame}
+use Rattle.regress_engine_answers.specs.declared.walker.Station.{Station}
+use Rattle.regress_engine_answers.specs.declared.walker.Walker.{Walker}
 
 -- the group whose marks an instruction writes
 abbrev pub written_by : Instruction → Option ℕ
@@ -34,6 +36,11 @@ marked dir (code.begin_group k) o groups = slice_set groups k (begun dir o (get_
 marked dir (code.end_group k) o groups = slice_set groups k (ended dir o (get_or groups k unset))
 marked dir (code.reset_group k) o groups = slice_set groups k unset
 marked dir _ o groups = groups
+
+-- the contents of a lookaround are gone through: groups are inside, and it is not negated
+abbrev pub is_entered : Instruction → Bool
+is_entered (code.submatch (lookaround false backward) first last continuation) = nat_lt first last
+is_entered _ = false
 
 -- an address and an offset
 abbrev pub station : (at offset : ℕ) → Station
@@ -100,12 +107,47 @@ module _ (told : ℕ → ℕ → Bool) where
     ]
     led i at o = station_at (suc at) (advance program input i dir groups o)
 
+-- ---- where a walk stands
+
+-- An address and an offset, whether it is read forward there, and for all contents around that are gone through, the innermost first, where
+-- the way goes on behind them.
+pub record Walk : Type 0 where
+  pub at : ℕ
+  pub offset : ℕ
+  pub forward : Bool
+  pub frames : List Frame
+
+-- what a walker of the code is
+abbrev pub walk_of : Walker → Walk
+walk_of w = record { at = w.here.at; offset = w.here.offset; forward = w.forward; frames = reverse w.frames.items }
+
+-- where the way goes on behind contents, at an offset, and how it is read there
+abbrev pub frame : (continuation offset : ℕ) → (forward : Bool) → Frame
+frame continuation offset forward = record { continuation = continuation; offset = offset; forward = forward }
+
+-- whether contents are read forward
+abbrev pub inside_forward : Submatch → (forward : Bool) → Bool
+inside_forward (lookaround negated backward) forward = not backward
+inside_forward atomic forward = forward
+
+-- where contents begin that are gone through: behind them it goes on at the offset where they began
+abbrev pub entered : Instruction → Walk → Walk
+entered (code.submatch kind first last continuation) w =
+    record { at = suc w.at; offset = w.offset; forward = inside_forward kind w.forward; frames = frame continuation w.offset w.forward ∷ w.frames }
+entered i w = w
+
+-- Where a walk goes on behind an instruction that leads to an address and an offset, or inside of its contents; and where it leads nowhere,
+-- behind the innermost contents. Outside of all contents it has come to its end.
+abbrev pub goes : Instruction → Option Station → Walk → Option Walk
+goes i (Some x) w = Some (if is_entered i then entered i w else record w { at = x.at; offset = x.offset })
+goes i None w = elim w.frames [ [] ↦ None | f ∷ fs ↦ Some (record { at = f.continuation; offset = f.offset; forward = f.forward; frames = fs }) ]
+
 -- What is told of the exits of a one-character loop, from one address to another, is so: behind at least one more character one of them is
 -- told of.
-abbrev pub AreExitsTold : Program → View → List Marks → Answers → Instruction → (from to : ℕ) → Type 0
-AreExitsTold program v groups a i from to = (o : ℕ) → IsAtPlace (reading_of v) o → exits_by a from o ≡ elim (advance program (input_of v) i Forward groups o) [
+abbrev pub AreExitsTold : Program → View → Direction → List Marks → Answers → Instruction → (from to : ℕ) → Type 0
+AreExitsTold program v dir groups a i from to = (o : ℕ) → IsAtPlace (reading_of v) o → exits_by a from o ≡ elim (advance program (input_of v) i dir groups o) [
   | None ↦ false
-  | Some q ↦ one_at (told_by a) to (one_by_one program (input_of v) (length v.units) i Forward groups q)
+  | Some q ↦ one_at (told_by a) to (one_by_one program (input_of v) (length v.units) i dir groups q)
 ]
 
 -- What is told of the exits of all one-character loops that are read forward is so.
@@ -118,7 +160,8 @@ pub record MayWalk (flow : Flow) (h : Heights) (program : Program) (v : View) (a
   pub ranked : AreRanked flow (ranking_of h) program
   pub placed : ArePlaced h (length h.ranks)
   pub unbounded : AreUnboundedOrOnce (length v.units) program
-  pub leaves : (at first last continuation : ℕ) (kind : Submatch) → Stands program at (code.submatch kind first last continuation) → LeavesGroups kind first last
+  pub leaves : (at first last continuation : ℕ) (kind : Submatch) → Stands program at (code.submatch kind first last continuation)
+      → LeavesGroups h program at kind first last continuation
   pub there : 0 < length h.ranks
   pub calm : flow.calm 0 ≡ true
   pub forward : forward_at h 0 ≡ true
@@ -126,15 +169,43 @@ pub record MayWalk (flow : Flow) (h : Heights) (program : Program) (v : View) (a
   pub right : AreRight flow h program v a
   pub exits : AreExitsKnown flow h program v a
 
--- A way that began at an offset has come to an address and an offset, with some groups: from there a run has the answer that the run from
--- its begin has.
-pub record IsOnWay (flow : Flow) (h : Heights) (program : Program) (v : View) (start at o : ℕ) (groups : List Marks) : Type 0 where
+-- A run from an address and an offset, with some groups, has this answer.
+pub record IsOnWay (flow : Flow) (h : Heights) (program : Program) (v : View) (dir : Direction) (answer : Whole) (at o : ℕ) (groups : List Marks) : Type 0 where
   pub loops : List (ℕ × ℕ)
-  pub answer : Whole
   pub steps : ℕ
-  pub running : AreRunning flow (ranking_of h) program (length v.units) Forward (whole at o loops groups)
+  pub running : AreRunning flow (ranking_of h) program (length v.units) dir (whole at o loops groups)
   pub there : at < length h.ranks
   pub within : o ≤ length v.units
-  pub reads : ReadsAlong program v Forward (whole at o loops groups ∷ [])
-  pub run : Run program (input_of v) Forward (whole at o loops groups ∷ []) steps (Some answer)
-  pub answers : EndsIn program (input_of v) start (Some answer)
+  pub reads : ReadsAlong program v dir (whole at o loops groups ∷ [])
+  pub run : Run program (input_of v) dir (whole at o loops groups ∷ []) steps (Some answer)
+
+-- Groups are as many as others, and the same but for those from the first up to before the last.
+abbrev pub AreKept : (first last : ℕ) → (new old : List Marks) → Type 0
+AreKept first last new old = (length new ≡ length old) × ((k : ℕ) → (first ≤ k → k < last → ⊥) → get_or new k unset ≡ get_or old k unset)
+
+-- An address lies in the contents without loops of a lookaround that goes on at another, and the groups outside are as they were before it.
+pub record IsInside (h : Heights) (program : Program) (continuation at : ℕ) (groups before : List Marks) : Type 0 where
+  pub look : ℕ
+  pub first : ℕ
+  pub last : ℕ
+  pub free : AreLoopFree h program look first last continuation
+  pub after : look < at
+  pub ahead : at < continuation
+  pub kept : AreKept first last groups before
+
+module _ (flow : Flow) (h : Heights) (program : Program) (v : View) where
+  -- A walk that began at an offset has come to an address and an offset, with some groups. Outside of all contents a run from there has the
+  -- answer that the run from the begin of the walk has. Inside of some it has the answer of these contents, by which it is then on its way
+  -- behind them.
+  abbrev pub Walks : (start : ℕ) → List Frame → (forward : Bool) → (at o : ℕ) → List Marks → Type 0
+  Walks start [] forward at o groups =
+      (forward ≡ true) × (answer : Whole) × IsOnWay flow h program v Forward answer at o groups × EndsIn program (input_of v) start (Some answer)
+  Walks start (f ∷ fs) forward at o groups =
+      (answer : Whole) × (before : List Marks) × IsOnWay flow h program v (direction_of forward) answer at o groups
+      × (x : IsInside h program f.continuation at groups before) × Walks start fs f.forward f.continuation f.offset (mixed 0 x.first x.last answer.groups before)
+
+module _ (h : Heights) (v : View) where
+  -- How far it is to the end of the text: so many addresses for each offset, and the ranks below; inside of contents the addresses up to their end.
+  abbrev pub far : List Frame → (at o : ℕ) → ℕ
+  far [] at o = room (length v.units) Forward o * length h.order + rank_at h at
+  far (f ∷ fs) at o = far fs f.continuation f.offset + (f.continuation - at)

@@ -9,3 +9,5 @@ pub mod Formulas
 pub mod Within
 pub mod NextPlaces
 pub mod DecidingLinear
+pub mod ExitAnswers
+pub mod PassageLemmas
