@@ -1,7 +1,7 @@
 -- How a table of answers is filled: what is worked out of an address and an offset is so, and the rest stays so.
-use Rattle.std.specs.Prelude.{not, slice_get}
+use Rattle.std.specs.Prelude.{slice_get}
 use Rattle.std.specs.List.{AllByRecursion}
-use Rattle.std.proofs.Common.{◌≡◌, ℕ, zero, suc, ◌+◌, ◌-◌, ◌^◌, ◌<◌, ◌≤◌, ◌⊎◌, ◌&&◌, ◌||◌, ◌==◌, inl, inr, Bool, true, false, if◌then◌else◌, List, [], ◌∷◌, length, Option, None, Some, refl, sym, ap, ap₂, ◌∙◌, subst, arith}
+use Rattle.std.proofs.Common.{◌≡◌, ℕ, zero, suc, ◌+◌, ◌-◌, ◌<◌, ◌≤◌, ◌⊎◌, ◌&&◌, ◌||◌, ◌==◌, inl, inr, Bool, true, false, List, [], ◌∷◌, length, Option, None, Some, refl, sym, ap, ap₂, ◌∙◌, subst, arith}
 use Rattle.std.proofs.lemmas.Bool.{cases_eq, eq-eqb, eqb-true}
 use Rattle.std.proofs.lemmas.Option.{slice_get_within}
 use Rattle.regress_meaning.specs.Meaning.{Direction, Forward, Backward}
@@ -12,8 +12,8 @@ use Rattle.regress_engine_insn.specs.Instructions.{LoopFields, Instruction, Prog
 use Rattle.regress_engine_insn.specs.Instructions as code
 use Rattle.regress_engine_runs.specs.Closed.{takes_character}
 use Rattle.regress_engine_runs.specs.States.{Marks, Whole}
-use Rattle.regress_engine_runs.specs.Runs.{Run, advance, finds, is_plain, one_by_one, room, successors}
-use Rattle.regress_engine_runs.specs.Meets.{now, referred, reads_character, IsAtPlace, ReadsPlaces}
+use Rattle.regress_engine_runs.specs.Runs.{advance, finds, is_plain, one_by_one, room, successors}
+use Rattle.regress_engine_runs.specs.Meets.{now, referred, reads_character, IsAtPlace}
 use Rattle.regress_engine_runs.specs.UndoStack.{whole}
 use Rattle.regress_engine_runs.proofs.RunViews.{one_stands}
 use Rattle.regress_engine_search.specs.Ready.{IsBody}
@@ -21,7 +21,6 @@ use Rattle.regress_engine_search.specs.Search.{Suits}
 use Rattle.regress_engine_search.proofs.ReadyLemmas.{body-next}
 use Rattle.regress_engine_search.proofs.SkipLemmas.{place-lies}
 use Rattle.regress_engine_memory.specs.Flow.{Flow}
-use Rattle.regress_engine_memory.specs.Needs.{taken_by}
 use Rattle.regress_engine_memory.specs.Under.{IsFurther}
 use Rattle.regress_engine_memory.proofs.Onward.{flows-unreferring, room-less}
 use Rattle.regress_engine_memory.proofs.Taking.{advance-takes, one-takes, taking-unreferring}
@@ -29,7 +28,7 @@ use Rattle.regress_engine_linear.specs.Answered.{AreExitsRight, IsAnswered, answ
 use Rattle.regress_engine_answers.specs.AnswerTables.{exits_by, told_by}
 use Rattle.regress_engine_answers.specs.Filled.{IsExitRight, IsFilled, IsPast, IsRight, way_of}
 use Rattle.regress_engine_linear.specs.Linear.{IsDue, IsLinear, too_long}
-use Rattle.regress_engine_linear.specs.Ranks.{Ranking, AreRunning, AreUnboundedOrOnce, Inside, IsBeyond, Ranks}
+use Rattle.regress_engine_linear.specs.Ranks.{Ranking, AreUnboundedOrOnce, Inside, IsBeyond}
 use Rattle.regress_engine_linear.specs.RankTables.{Heights, forward_at, rank_at, ranking_of}
 use Rattle.regress_engine_answers.specs.declared.answers.Answers.{Answers}
 use Rattle.regress_engine_linear.proofs.AnswerLemmas.{answers-by, look-answers}
@@ -53,7 +52,7 @@ pub bit-here : (at o : ℕ) (old value : Bool) → old ≡ false → (old || (((
 bit-here at o old value fresh =
     ap (λ b. b || (((at == at) && (o == o)) && value)) fresh ∙ ap₂ (λ x y. (x && y) && value) (eq-eqb at at refl) (eq-eqb o o refl)
 
-room-end : (last : ℕ) (d : Direction) (o : ℕ) → o ≤ last → room last d o ≤ last
+pub room-end : (last : ℕ) (d : Direction) (o : ℕ) → o ≤ last → room last d o ≤ last
 room-end last Forward o low = omega arith
 room-end last Backward o low = omega (arith, low)
 

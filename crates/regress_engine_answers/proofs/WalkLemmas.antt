@@ -13,7 +13,7 @@ use Rattle.regress_front_nodes.specs.TreeMeaning.{submatch_direction}
 use Rattle.regress_engine_input.specs.Views.{View, AreOfKind, direction_of, input_of, reading_of}
 use Rattle.regress_engine_insn.specs.Instructions.{LoopFields, Instruction, Program, Stands, surplus}
 use Rattle.regress_engine_insn.specs.Instructions as code
-use Rattle.regress_engine_runs.specs.States.{Marks, Whole, begun, mixed, onward}
+use Rattle.regress_engine_runs.specs.States.{Marks, Whole, mixed, onward}
 use Rattle.regress_engine_runs.specs.Runs.{Run, finds, goes, looks, advance, after_submatch, after_times, as_far, choices, count_of, counted, entered, fields_of, given_back, is_idle, is_plain, moved_to, one_by_one, one_more, ordered, room, successors}
 use Rattle.regress_engine_runs.specs.Closed.{Fits, takes_character}
 use Rattle.regress_engine_runs.specs.Meets.{IsAtPlace, ReadsPlaces, behind, inside, now, reads_character, referred}
@@ -256,20 +256,23 @@ module _ (v : View) (program : Program) (i : Instruction) (takes : takes_charact
           by_told false e more = more e
 
   -- So the last of some is the first of them, or another, where none of all behind it is.
-  pub far-none : (n o : ℕ) (found : Option ℕ)
+  pub far-none : (n o : ℕ) (found : Option ℕ) → room (length v.units) dir o ≤ length v.units
       → elim (advance program (input_of v) i dir gs o) [ None ↦ false | Some q ↦ one_at told at (one_by_one program (input_of v) (length v.units) i dir gs q) ] ≡ false
       → last_at told at (exits-from n o) found ≡ (if told at o then Some o else found)
   unfolding one_by_one
-  far-none zero o found none = refl
-  far-none (suc n) o found none = by_value (advance program (input_of v) i dir gs o) none
+  far-none zero o found few none = refl
+  far-none (suc n) o found few none = by_value (advance program (input_of v) i dir gs o) refl none
     where
       next : Option ℕ
       next = if told at o then Some o else found
 
-      by_value : (x : Option ℕ) → elim x [ None ↦ false | Some q ↦ one_at told at (one_by_one program (input_of v) (length v.units) i dir gs q) ] ≡ false
+      by_value : (x : Option ℕ) → advance program (input_of v) i dir gs o ≡ x
+          → elim x [ None ↦ false | Some q ↦ one_at told at (one_by_one program (input_of v) (length v.units) i dir gs q) ] ≡ false
           → last_at told at (elim x [ None ↦ [] | Some q ↦ one_by_one program (input_of v) n i dir gs q ]) next ≡ next
-      by_value None e = refl
-      by_value (Some q) e = none-last told at (exits-from n q) next (none-of n (length v.units) q (omega arith) e)
+      by_value None here e = refl
+      by_value (Some q) here e =
+          let left = (advance-takes v program i dir gs o q (taking-unreferring i takes) here).1 in
+          none-last told at (exits-from n q) next (none-of n (length v.units) q (omega (arith, few, left)) e)
 
 -- what takes a character does so whatever the groups are, one by one
 ones-free : (program : Program) (input : Input) (i : Instruction) (dir : Direction) (gs hs : List Marks) → referred i ≡ None → (n o : ℕ)
@@ -564,7 +567,7 @@ module _ (flow : Flow) (h : Heights) (v : View) (all : AreOfKind v.kind v.units)
             let body : IsBody program v (suc (suc at)) o = (j, there, takes', place-here (code.single_loop least most greedy) here refl, omega arith) in
             subst (λ x. Leads w s (station_at (suc (suc at)) x) gs)
             (ap (first_at told (suc (suc at))) (counted-any program input j dir gs hs (taking-unreferring j takes') least most greedy o)
-            ∙ sym (exit-is v all program suits hs (suc (suc at)) j there takes' told (suc (suc at)) least most greedy o body))
+            ∙ sym (exit-is v all program suits dir hs (suc (suc at)) j there takes' told (suc (suc at)) least most greedy o body))
             (each-goes w s (suc (suc at)) way.loops gs (counted program input least most greedy j dir gs o) good rest)
 
     by_kind : (i : Instruction) → Stands program at i → is_plain i ≡ true → AllByRecursion GoodHere (successors program input i dir s) → Rest w s (successors program input i dir s) → LeadsOn i
@@ -650,8 +653,8 @@ module _ (flow : Flow) (h : Heights) (v : View) (all : AreOfKind v.kind v.units)
     -- past a lookaround
     look-past : (negated backward : Bool) (low high continuation : ℕ) → Stands program at (code.submatch (lookaround negated backward) low high continuation)
         → is_entered (code.submatch (lookaround negated backward) low high continuation) ≡ false → Comes w s continuation o gs
-    look-past negated backward low high continuation here not =
-        let (q, inner, rest) = look-runs negated backward low high continuation here in by_answer negated q here not (good negated backward low high continuation here) rest
+    look-past negated backward low high continuation here past =
+        let (q, inner, rest) = look-runs negated backward low high continuation here in by_answer negated q here past (good negated backward low high continuation here) rest
       where
         by_answer : (negated : Bool) (q : Option Whole) → Stands program at (code.submatch (lookaround negated backward) low high continuation)
             → is_entered (code.submatch (lookaround negated backward) low high continuation) ≡ false → ((ms : List Marks) → Good w s (whole continuation o way.loops ms))
@@ -700,18 +703,18 @@ module _ (flow : Flow) (h : Heights) (v : View) (all : AreOfKind v.kind v.units)
 
     -- From each state but that of the goal the way leads on, but into the contents of a lookaround.
     pub leads-on : (i : Instruction) → Stands program at i → (i ≡ code.goal → ⊥) → is_entered i ≡ false → LeadsOn i
-    leads-on code.goal here other not = absurd (other refl)
-    leads-on (code.submatch (lookaround negated backward) low high continuation) here other not =
-        look-past negated backward low high continuation here not
-    leads-on (code.submatch atomic low high continuation) here other not = absurd (may.leaves at low high continuation atomic here)
-    leads-on i here other not = plain-on i here refl
+    leads-on code.goal here other past = absurd (other refl)
+    leads-on (code.submatch (lookaround negated backward) low high continuation) here other past =
+        look-past negated backward low high continuation here past
+    leads-on (code.submatch atomic low high continuation) here other past = absurd (may.leaves at low high continuation atomic here)
+    leads-on i here other past = plain-on i here refl
 
     -- it stays on its way, and comes nearer
     pub on-way : (i : Instruction) → Stands program at i → is_entered i ≡ false → (x : Station) → led told program input dir hs i at o ≡ Some x
         → IsOnWay flow h program v dir w x.at x.offset (marked dir i o gs) × (ls : List (ℕ × ℕ)) × IsBeyond r last dir s (whole x.at x.offset ls (marked dir i o gs))
-    on-way i here not x e =
-        let comes = subst (λ (y : Option Station). Leads w s y (marked dir i o gs)) e (leads-on i here other not) in
-        (comes-way x.at x.offset (marked dir i o gs) comes, (comes.0, comes.2.1.0))
+    on-way i here past x e =
+        let comes = subst (λ (y : Option Station). Leads w s y (marked dir i o gs)) e (leads-on i here other past) in
+        (comes-way x.at x.offset (marked dir i o gs) comes, comes.0, comes.2.1.0)
       where
         other : i ≡ code.goal → ⊥
         other is = let never : None ≡ Some x = sym (ap (λ j. led told program input dir hs j at o) is) ∙ e in absurd (cc never)

@@ -1,6 +1,6 @@
 -- A walk along what is told to have an answer goes on, comes nearer to its end, and has its answer there.
 use Rattle.std.specs.Prelude.{nat_lt, nat_le, not, slice_set}
-use Rattle.std.proofs.Common.{◌≡◌, inl, inr, ℕ, zero, suc, ◌+◌, ◌-◌, ◌*◌, ◌<◌, ◌≤◌, ◌&&◌, Bool, true, false, List, [], ◌∷◌, length, get_or, Option, None, Some, if◌then◌else◌, refl, sym, ap, ap₂, ◌∙◌, subst, arith, get_or-set_other, length-set}
+use Rattle.std.proofs.Common.{◌≡◌, inl, inr, ℕ, zero, suc, ◌+◌, ◌*◌, ◌<◌, ◌≤◌, ◌&&◌, Bool, true, false, List, [], ◌∷◌, length, get_or, Option, None, Some, if◌then◌else◌, refl, sym, ap, ap₂, ◌∙◌, subst, arith, get_or-set_other, length-set}
 use Rattle.std.proofs.lemmas.Bool.{and_parts, leb-true, le-leb, lt-ltb, ltb-true}
 use Rattle.std.proofs.lemmas.Bool.Decides.{nat_tests}
 use Rattle.std.proofs.lemmas.Nat.{mul-le}
@@ -160,13 +160,13 @@ module _ (flow : Flow) (h : Heights) (v : View) (all : AreOfKind v.kind v.units)
   walk-on : (start : ℕ) (frames : List Frame) (forward : Bool) (at o : ℕ) (gs hs : List Marks) → Goes start frames forward at o gs → (i : Instruction) → Stands program at i → is_entered i ≡ false
       → (x : Station) → led (told_by a) program (input_of v) (direction_of forward) hs i at o ≡ Some x
       → Goes start frames forward x.at x.offset (marked (direction_of forward) i o gs) × (left frames x.at x.offset < left frames at o)
-  walk-on start [] false at o gs hs (is, (w, way, ends)) i here not x e = absurd (cc is)
-  walk-on start [] true at o gs hs (is, (w, way, ends)) i here not x e =
-      let (on, (ls, beyond)) = on-way flow h v all program suits a may Forward w at o gs way hs i here not x e in (
+  walk-on start [] false at o gs hs (is, (w, way, ends)) i here past x e = absurd (cc is)
+  walk-on start [] true at o gs hs (is, (w, way, ends)) i here past x e =
+      let (on, ls, beyond) = on-way flow h v all program suits a may Forward w at o gs way hs i here past x e in (
         (refl, (w, on, ends)),
         nearer (whole at o way.loops gs) (whole x.at x.offset ls (marked Forward i o gs)) beyond on.there,
       )
-  walk-on start (f ∷ fs) forward at o gs hs (w, before, way, inside, rest) i here not x e =
+  walk-on start (f ∷ fs) forward at o gs hs (w, before, way, inside, rest) i here past x e =
       let leads = inside.free.leads at i inside.after inside.ahead here in
       let (more, less) = through inside.first inside.last f.continuation (told_by a) program (input_of v) (direction_of forward) hs at o x i leads e in
       let after = inside.after in
@@ -179,7 +179,7 @@ module _ (flow : Flow) (h : Heights) (v : View) (all : AreOfKind v.kind v.units)
         ahead = less;
         kept = kept-on inside.first inside.last f.continuation (direction_of forward) at o i gs before leads inside.kept;
       } in (
-        (w, before, (on-way flow h v all program suits a may (direction_of forward) w at o gs way hs i here not x e).0, still, rest),
+        (w, before, (on-way flow h v all program suits a may (direction_of forward) w at o gs way hs i here past x e).0, still, rest),
         omega (arith, more, less),
       )
 
@@ -289,26 +289,31 @@ module _ (flow : Flow) (h : Heights) (v : View) (all : AreOfKind v.kind v.units)
   -- There the run has its answer.
   pub walk-ends : (start : ℕ) (frames : List Frame) (forward : Bool) (at o : ℕ) (gs hs : List Marks) → Goes start frames forward at o gs → (i : Instruction) → Stands program at i
       → goes i (led (told_by a) program (input_of v) (direction_of forward) hs i at o) (record { at = at; offset = o; forward = forward; frames = frames }) ≡ None
-      → (frames ≡ []) × IsAnswer program (input_of v) start (Some o) (marked (direction_of forward) i o gs)
+      → IsAnswer program (input_of v) start (Some o) (marked (direction_of forward) i o gs)
   walk-ends start (f ∷ fs) forward at o gs hs walks i here e = by_led (led (told_by a) program (input_of v) (direction_of forward) hs i at o) e
     where
       by_led : (l : Option Station) → goes i l (record { at = at; offset = o; forward = forward; frames = f ∷ fs }) ≡ None
-          → ((f ∷ fs) ≡ []) × IsAnswer program (input_of v) start (Some o) (marked (direction_of forward) i o gs)
+          → IsAnswer program (input_of v) start (Some o) (marked (direction_of forward) i o gs)
       by_led None none = absurd (cc none)
       by_led (Some x) none = absurd (cc none)
   walk-ends start [] false at o gs hs (is, (w, way, ends)) i here e = absurd (cc is)
   walk-ends start [] true at o gs hs (is, (w, way, ends)) i here e = by_led (led (told_by a) program (input_of v) Forward hs i at o) refl e
     where
       by_led : (l : Option Station) → led (told_by a) program (input_of v) Forward hs i at o ≡ l → goes i l (record { at = at; offset = o; forward = true; frames = [] }) ≡ None
-          → ([] ≡ []) × IsAnswer program (input_of v) start (Some o) (marked Forward i o gs)
+          → IsAnswer program (input_of v) start (Some o) (marked Forward i o gs)
       by_led (Some x) led-is none = absurd (cc none)
       by_led None led-is none =
           let goal = ends-way flow h v all program suits a may Forward w at o gs way hs i here led-is in
-          let same = at-goal flow h v all program suits a may Forward w at o gs way hs (subst (Stands program at) goal here) in (
-            refl,
-            subst (λ j. IsAnswer program (input_of v) start (Some o) (marked Forward j o gs)) (sym goal)
-                (w, ends, ap (λ (u : Whole). u.offset) same, ap (λ (u : Whole). u.groups) same),
-          )
+          let same = at-goal flow h v all program suits a may Forward w at o gs way hs (subst (Stands program at) goal here) in
+          subst (λ j. IsAnswer program (input_of v) start (Some o) (marked Forward j o gs)) (sym goal)
+          (w, ends, ap (λ (u : Whole). u.offset) same, ap (λ (u : Whole). u.groups) same)
+
+  -- so far it has come at least
+  pub end-left : (frames : List Frame) (forward : Bool) (at o : ℕ) (i : Instruction) (l : Option Station) → goes i l (record { at = at; offset = o; forward = forward; frames = frames }) ≡ None
+      → room (length v.units) Forward o * length h.order ≤ left frames at o
+  end-left [] forward at o i l e = omega arith
+  end-left (f ∷ fs) forward at o i None e = absurd (cc e)
+  end-left (f ∷ fs) forward at o i (Some x) e = absurd (cc e)
 
   -- what is told of the exits of a one-character loop that stands there is so
   pub walk-exits : (start : ℕ) (frames : List Frame) (forward : Bool) (at o : ℕ) (gs hs : List Marks) → Goes start frames forward at o gs → (i : Instruction) → Stands program at i

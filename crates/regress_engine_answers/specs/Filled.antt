@@ -1,5 +1,5 @@
 -- What a table of answers tells while it is filled: offset by offset, and at each offset by rank.
-use Rattle.std.specs.Prelude.{◌≡◌, ℕ, suc, ◌-◌, ◌<◌, ◌≤◌, ◌⊎◌, Bool, true, false, length, if◌then◌else◌}
+use Rattle.std.specs.Prelude.{◌≡◌, ℕ, suc, ◌<◌, ◌≤◌, ◌⊎◌, Bool, true, false, length}
 use Rattle.regress_meaning.specs.Meaning.{Direction}
 use Rattle.regress_engine_input.specs.Views.{View, direction_of, reading_of}
 use Rattle.regress_engine_insn.specs.Instructions.{Instruction, Program, Stands}

@@ -199,7 +199,7 @@ module _ (flow : Flow) (h : Heights) (program : Program) (v : View) where
   -- behind them.
   abbrev pub Walks : (start : ℕ) → List Frame → (forward : Bool) → (at o : ℕ) → List Marks → Type 0
   Walks start [] forward at o groups =
-      (forward ≡ true) × (answer : Whole) × IsOnWay flow h program v Forward answer at o groups × EndsIn program (input_of v) start (Some answer)
+      (forward ≡ true) × ((answer : Whole) × IsOnWay flow h program v Forward answer at o groups × EndsIn program (input_of v) start (Some answer))
   Walks start (f ∷ fs) forward at o groups =
       (answer : Whole) × (before : List Marks) × IsOnWay flow h program v (direction_of forward) answer at o groups
       × (x : IsInside h program f.continuation at groups before) × Walks start fs f.forward f.continuation f.offset (mixed 0 x.first x.last answer.groups before)

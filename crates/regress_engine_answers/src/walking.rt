@@ -401,7 +401,7 @@ impl<'a, Input: ExecutorInput> Answering<'a, Input> {
         requires place { reads_character (instruction insn.now) ≡ true → IsAtPlace (reading_of (Input.view self.now.input)) offset }
         requires room { at + 1 < 2 ^ 64 }
         requires exits { (i : Instruction) → is_single (instruction insn.now) ≡ true → Stands (program_of self.now.program.now) (at + 1) i
-            → AreExitsTold (program_of self.now.program.now) (Input.view self.now.input) (map marks_of self.now.groups.now) answers.now i at (at + 2) }
+            → AreExitsTold (program_of self.now.program.now) (Input.view self.now.input) (direction_of forward) (map marks_of self.now.groups.now) answers.now i at (at + 2) }
         ensures { result ≡ led (told_by answers.now) (program_of self.now.program.now) (input_of (Input.view self.now.input)) (direction_of forward)
             (map marks_of self.now.groups.now) (instruction insn.now) at offset }
     {

@@ -1,4 +1,4 @@
-use Rattle.std.proofs.Common.{◌≡◌, ◌-◌, ℕ, Bool, true, inl, inr, map, Option, None, Some, if◌then◌else◌, sym, ap, ◌∙◌}
+use Rattle.std.proofs.Common.{◌≡◌, ◌-◌, Bool, true, inl, inr, map, Some, if◌then◌else◌, sym, ap, ◌∙◌}
 use Rattle.std.proofs.lemmas.List.{length-map}
 use Rattle.regress_engine_code.specs.Standing.{program_of}
 use Rattle.regress_engine_input.specs.Views.{direction_of, input_of}
@@ -10,6 +10,8 @@ use Rattle.regress_engine_search.specs.StateViews.{marks_of}
 use Rattle.regress_engine_search.proofs.ReadyLemmas.{body-asked, body-at, body-next}
 use Rattle.regress_engine_answers.specs.AnswerTables.{told_by}
 use Rattle.regress_engine_answers.specs.Walked.{last_at}
+use Rattle.regress_engine_search.proofs.SkipLemmas.{place-lies}
+use Rattle.regress_engine_answers.proofs.FillLemmas.{room-end}
 use Rattle.regress_engine_answers.proofs.WalkLemmas.{far-last, far-none, far-on}
 use Rattle.regress_engine_answers.proofs.answers.Answering.far_exit.Goals as goal
 
@@ -58,8 +60,9 @@ returns-then-not-has_exit g c =
     let body = c.requires.body in
     let same : body.0 ≡ i = one_stands program input (c.args.at - 1) body.0 i body.1 c.requires.stands in
     let takes : takes_character i ≡ true = ap takes_character (sym same) ∙ body.2 in
+    let few = room-end _ (direction_of c.args.forward) c.places.behind (place-lies v (g.met.Input.InputIndexer.are_of_kind c.args.self.now.input) c.places.behind c.places.invariant.place) in
     let none = sym (c.requires.exits c.places.behind c.places.invariant.place) ∙ sym c.has_exit.ensures ∙ c.if-not-has_exit.true in
-    found ∙ sym (far-none v program i takes (direction_of c.args.forward) gs told c.args.at c.places.rest c.places.behind c.places.found none) ∙ c.places.invariant.same
+    found ∙ sym (far-none v program i takes (direction_of c.args.forward) gs told c.args.at c.places.rest c.places.behind c.places.found few none) ∙ c.places.invariant.same
 
 pub places-preserved : goal.places-preserved
 places-preserved g c =

@@ -1,4 +1,4 @@
-use Rattle.std.proofs.Common.{◌≡◌, ◌-◌, ℕ, Bool, inl, inr, map, Option, None, Some, if◌then◌else◌, sym, ap, ◌∙◌}
+use Rattle.std.proofs.Common.{inl, inr, map, sym, ◌∙◌}
 use Rattle.std.proofs.lemmas.List.{length-map}
 use Rattle.regress_engine_code.specs.Standing.{program_of}
 use Rattle.regress_engine_input.specs.Views.{direction_of, input_of}
