@@ -1,5 +1,5 @@
 -- From each state of the way on it goes where a run has the same answer.
-use Rattle.std.specs.Prelude.{map, nat_lt, nat_le, not, reverse, slice_get, slice_set}
+use Rattle.std.specs.Prelude.{IfSome, map, nat_lt, nat_le, not, reverse, slice_get, slice_set}
 use Rattle.std.specs.List.{AllByRecursion}
 use Rattle.std.proofs.Common.{◌≡◌, ◌⊎◌, inl, inr, ℕ, zero, suc, ◌+◌, ◌-◌, ◌<◌, ◌≤◌, ◌||◌, Bool, true, false, List, [], ◌∷◌, ◌++◌, length, get_or, Option, None, Some, if◌then◌else◌, refl, sym, ap, ap₂, ◌∙◌, subst, arith, append-nil, get_or-set_same, replicate, take}
 use Rattle.std.proofs.lemmas.Bool.{lt-ltb}
@@ -8,15 +8,15 @@ use Rattle.std.proofs.lemmas.List.{reverse-append}
 use Rattle.std.proofs.lemmas.Option.{slice_get_within}
 use Rattle.regress_meaning.specs.Meaning.{Direction}
 use Rattle.regress_meaning.specs.Inputs.{Input}
-use Rattle.regress_front_nodes.specs.Trees.{lookaround, atomic}
+use Rattle.regress_front_nodes.specs.Trees.{Submatch, lookaround, atomic}
 use Rattle.regress_front_nodes.specs.TreeMeaning.{submatch_direction}
 use Rattle.regress_engine_input.specs.Views.{View, AreOfKind, direction_of, input_of, reading_of}
 use Rattle.regress_engine_insn.specs.Instructions.{LoopFields, Instruction, Program, Stands, surplus}
 use Rattle.regress_engine_insn.specs.Instructions as code
 use Rattle.regress_engine_runs.specs.States.{Marks, Whole, mixed, onward}
-use Rattle.regress_engine_runs.specs.Runs.{Run, finds, goes, looks, advance, after_submatch, after_times, as_far, choices, count_of, counted, entered, fields_of, given_back, is_idle, is_plain, moved_to, one_by_one, one_more, ordered, room, successors}
+use Rattle.regress_engine_runs.specs.Runs.{Run, ends, finds, goes, looks, advance, after_submatch, after_times, as_far, choices, count_of, counted, entered, fields_of, given_back, is_idle, is_plain, moved_to, one_by_one, one_more, ordered, room, successors}
 use Rattle.regress_engine_runs.specs.Closed.{Fits, takes_character}
-use Rattle.regress_engine_runs.specs.Meets.{IsAtPlace, ReadsPlaces, behind, inside, now, reads_character, referred}
+use Rattle.regress_engine_runs.specs.Meets.{IsAtPlace, ReadsPlaces, behind, inside, later, now, reads_character, referred}
 use Rattle.regress_engine_runs.specs.UndoStack.{whole, at_each}
 use Rattle.regress_engine_runs.proofs.Computed.{one_run}
 use Rattle.regress_engine_runs.proofs.MixedGroups.{mixed-none}
@@ -28,8 +28,12 @@ use Rattle.regress_engine_search.proofs.GivenBack.{given-back}
 use Rattle.regress_engine_search.proofs.InsnLemmas.{again-successors}
 use Rattle.regress_engine_search.proofs.ReadyLemmas.{simple-ready}
 use Rattle.regress_engine_search.proofs.SkipLemmas.{place-lies}
+use Rattle.regress_engine_memory.specs.Agreeing.{Agrees}
 use Rattle.regress_engine_memory.specs.Flow.{Flow, Flows}
-use Rattle.regress_engine_memory.proofs.Onward.{flows-unreferring}
+use Rattle.regress_engine_memory.specs.Under.{IsOnward}
+use Rattle.regress_engine_memory.proofs.EachState.{each-append}
+use Rattle.regress_engine_memory.proofs.Steady.{steady}
+use Rattle.regress_engine_memory.proofs.Onward.{ends-onward, flows-unreferring}
 use Rattle.regress_engine_memory.proofs.Taking.{advance-takes, after-on, one-takes, taking-unreferring}
 use Rattle.regress_engine_memory.proofs.Unreferring.{advance-any, counted-any}
 use Rattle.regress_engine_linear.specs.Ranks.{Ranking, Ranks, Lowers, Inside, IsCycle, AreRunning, IsBeyond}
@@ -38,7 +42,7 @@ use Rattle.regress_engine_linear.specs.Answered.{Ends, IsAnswered, ReadsAlong, o
 use Rattle.regress_engine_answers.specs.AnswerTables.{told_by}
 use Rattle.regress_engine_answers.specs.Filled.{AreRight, IsExitRight}
 use Rattle.regress_engine_linear.specs.Linear.{IsLinear, too_long}
-use Rattle.regress_engine_answers.specs.Walked.{AreExitsKnown, AreExitsTold, IsOnWay, MayWalk, again_at, either_of, exit_at, first_at, first_of, is_entered, last_at, led, marked, station_at, written_by}
+use Rattle.regress_engine_answers.specs.Walked.{AreExitsKnown, AreExitsTold, IsOnWay, MayPass, MayWalk, again_at, either_of, exit_at, first_at, first_of, is_entered, last_at, led, marked, station_at, written_by}
 use Rattle.regress_engine_answers.specs.declared.answers.Answers.{Answers}
 use Rattle.regress_engine_answers.specs.declared.walker.Station.{Station}
 use Rattle.regress_engine_linear.proofs.Alike.{busy}
@@ -46,7 +50,7 @@ use Rattle.regress_engine_linear.proofs.AnswerLemmas.{reads-on, run-onward}
 use Rattle.regress_engine_linear.proofs.Beyond.{each-weaker, leads-beyond}
 use Rattle.regress_engine_linear.proofs.Running.{running-behind, running-inside, running-step, same-loop}
 use Rattle.regress_engine_linear.proofs.Within.{each-lies}
-use Rattle.regress_engine_answers.proofs.WorkLemmas.{reads-there}
+use Rattle.regress_engine_linear.proofs.WorkLemmas.{reads-there}
 
 -- ---- what is told of some offsets
 
@@ -320,17 +324,24 @@ exits-told-of flow h program v a at right all forward way least most greedy i he
         same None = refl
         same (Some q) = ap (one_at (told_by a) (at + 2)) (ones-free program (input_of v) i dir [] gs calm (length v.units) q)
 
--- a linear program may be walked, where a table tells what is so
+-- ways through a linear program may be followed
+pub may-pass : (flow : Flow) (h : Heights) (program : Program) (v : View) → IsLinear flow h program → suc (length v.units) < too_long → MayPass flow h program v
+may-pass flow h program v linear short = record {
+  closed = linear.flows;
+  ranked = linear.ranked;
+  placed = subst (ArePlaced h) (sym linear.count) linear.placed;
+  unbounded = λ at f here. elim (linear.unbounded at f here) [ inl most ↦ inl (omega (arith, most, short)) | inr once ↦ inr once ];
+  unreferring = λ at i here. flows-unreferring flow program at i (linear.flows at i (linear.calm at (slice_get_within program.instructions at i here)) here);
+  leaves = linear.leaves;
+}
+
+-- and walked, where a table tells what is so
 pub may-walk : (flow : Flow) (h : Heights) (program : Program) (v : View) (a : Answers) → IsLinear flow h program → suc (length v.units) < too_long → AreRight flow h program v a
     → AreExitsKnown flow h program v a → 0 < length program.instructions → MayWalk flow h program v a
 may-walk flow h program v a linear short right exits there =
     let count = linear.count in
     record {
-      closed = linear.flows;
-      ranked = linear.ranked;
-      placed = subst (ArePlaced h) (sym linear.count) linear.placed;
-      unbounded = λ at f here. elim (linear.unbounded at f here) [ inl most ↦ inl (omega (arith, most, short)) | inr once ↦ inr once ];
-      leaves = linear.leaves;
+      pass = may-pass flow h program v linear short;
       there = omega (arith, count, there);
       calm = linear.calm 0 there;
       forward = linear.begins;
@@ -362,15 +373,56 @@ runs-stand (looks {kind = kind} {first = low} {last = high} {continuation = cont
 
 -- ---- where a run goes on
 
-module _ (flow : Flow) (h : Heights) (v : View) (all : AreOfKind v.kind v.units) (program : Program) (suits : Suits program v) (a : Answers) (may : MayWalk flow h program v a) (dir : Direction) where
+module _ (flow : Flow) (h : Heights) (v : View) (all : AreOfKind v.kind v.units) (program : Program) (suits : Suits program v) (may : MayPass flow h program v) where
+  -- the answer of a run from states in the text lies in it
+  pub answer-lies : {d : Direction} {ss : List Whole} {n : ℕ} {q : Option Whole} → Run program (input_of v) d ss n q → AllByRecursion (λ u. u.offset ≤ length v.units) ss → ReadsAlong program v d ss
+      → IfSome q (λ t. t.offset ≤ length v.units)
+  answer-lies ends lies reads = tt
+  answer-lies (finds here) lies reads = lies.0
+  answer-lies (goes {dir = d} {i = i} {s = s} {ss = ss} here plain onward-run) lies reads =
+      answer-lies onward-run
+      (each-append (λ u. u.offset ≤ length v.units) (successors program (input_of v) i d s) ss
+      (each-lies v all program suits d i s (may.unreferring s.at i here) here plain lies.0 (λ is. (reads s i now here is).0)) lies.1)
+      (λ u j met. reads u j (later here plain met))
+  answer-lies (looks {dir = d} {kind = kind} {first = low} {last = high} {continuation = continuation} {s = s} {ss = ss} {m = m} {q = q} here inner onward-run) lies reads =
+      answer-lies onward-run
+      (each-append (λ u. u.offset ≤ length v.units) (after_submatch kind low high continuation s q) ss
+      (by_answer kind q lies.0 (answer-lies inner (lies.0, tt) (λ u j met. reads u j (inside here met)))) lies.1)
+      (λ u j met. reads u j (behind here (m, inner) met))
+    where
+      by_answer : (kind : Submatch) (q : Option Whole) → s.offset ≤ length v.units → IfSome q (λ t. t.offset ≤ length v.units) → AllByRecursion (λ u. u.offset ≤ length v.units) (after_submatch kind low high continuation s q)
+      by_answer (lookaround true backward) None low lies = (low, tt)
+      by_answer (lookaround true backward) (Some t) low lies = tt
+      by_answer (lookaround false backward) None low lies = tt
+      by_answer (lookaround false backward) (Some t) low lies = (low, tt)
+      by_answer atomic None low lies = tt
+      by_answer atomic (Some t) low lies = (lies, tt)
+
+  -- where the contents of an atomic group end: no further back, and in the text
+  pub atomic-ends : (dir : Direction) (at o low high continuation : ℕ) (loops : List (ℕ × ℕ)) (groups : List Marks) → AreRunning flow (ranking_of h) program (length v.units) dir (whole at o loops groups)
+      → Stands program at (code.submatch atomic low high continuation) → ReadsAlong program v dir (whole at o loops groups ∷ []) → (m : ℕ) (q : Option Whole)
+      → Run program (input_of v) dir (whole (suc at) o loops groups ∷ []) m q → o ≤ length v.units → IfSome q (λ t. IsOnward (length v.units) dir o t.offset × (t.offset ≤ length v.units))
+  atomic-ends dir at o low high continuation loops groups running here along m q run lies =
+      let s : Whole = whole (suc at) o loops groups in
+      let anew = (may.closed at (code.submatch atomic low high continuation) running.calm here).0 in
+      let alone : Agrees flow s s = record { calm = anew.calm; at = refl; offset = refl; size = refl; loops = λ id l. refl } in
+      both q (ends-onward flow (length v.units) program (input_of v) may.closed run o (alone, tt) (inl refl, tt) (steady v all program suits dir (s ∷ []) (λ u j met. along u j (inside here met))))
+      (answer-lies run (lies, tt) (λ u j met. along u j (inside here met)))
+    where
+      both : (q : Option Whole) → IfSome q (λ t. IsOnward (length v.units) dir o t.offset) → IfSome q (λ t. t.offset ≤ length v.units)
+          → IfSome q (λ t. IsOnward (length v.units) dir o t.offset × (t.offset ≤ length v.units))
+      both None on lies = tt
+      both (Some t) on lies = (on, lies)
+
+module _ (flow : Flow) (h : Heights) (v : View) (all : AreOfKind v.kind v.units) (program : Program) (suits : Suits program v) (may : MayPass flow h program v) (dir : Direction)
+    (told : ℕ → ℕ → Bool) (Past : (at o : ℕ) → Type 0)
+    (right : (at o : ℕ) → at < length h.ranks → o ≤ length v.units → direction_of (forward_at h at) ≡ dir → Past at o → IsAnswered flow (ranking_of h) program v dir at o (told at o))
+    (past : (s u : Whole) → Past s.at s.offset → IsBeyond (ranking_of h) (length v.units) dir s u → Past u.at u.offset) where
   abbrev last : ℕ
   last = length v.units
 
   abbrev r : Ranking
   r = ranking_of h
-
-  abbrev told : ℕ → ℕ → Bool
-  told = told_by a
 
   abbrev input : Input
   input = input_of v
@@ -382,10 +434,10 @@ module _ (flow : Flow) (h : Heights) (v : View) (all : AreOfKind v.kind v.units)
   abbrev Lies : Whole → Type 0
   Lies u = (u.at < length h.ranks) × (u.offset ≤ last)
 
-  pub told-there : (u : Whole) → Live u → Lies u → IsAnswered flow r program v dir u.at u.offset (told u.at u.offset)
-  told-there u live lies = subst (λ d. IsAnswered flow r program v d u.at u.offset (told u.at u.offset)) live.way (may.right u.at u.offset lies.0 lies.1)
+  pub told-there : (u : Whole) → Live u → Lies u → Past u.at u.offset → IsAnswered flow r program v dir u.at u.offset (told u.at u.offset)
+  told-there u live lies p = right u.at u.offset lies.0 lies.1 live.way p
 
-  module _ (w s : Whole) where
+  module _ (w s : Whole) (p : Past s.at s.offset) where
     -- a run over some states has the answer, and reads at places
     abbrev Rest : List Whole → Type 0
     Rest us = (m : ℕ) × Run program input dir us m (Some w) × ReadsAlong program v dir us
@@ -407,7 +459,7 @@ module _ (flow : Flow) (h : Heights) (v : View) (all : AreOfKind v.kind v.units)
 
     -- The first of some states has the answer where it is told so, else the others have it.
     first-or-rest : (u : Whole) (us : List Whole) → Good u → Rest (u ∷ us) → ((told u.at u.offset ≡ true) × Rest (u ∷ [])) ⊎ ((told u.at u.offset ≡ false) × Rest us)
-    first-or-rest u us good (m, run, reads) = by_end (told u.at u.offset) refl (told-there u good.0 good.1.1 u.loops u.groups good.0 along)
+    first-or-rest u us good (m, run, reads) = by_end (told u.at u.offset) refl (told-there u good.0 good.1.1 (past s u p good.1.0) u.loops u.groups good.0 along)
       where
         along : ReadsAlong program v dir (u ∷ [])
         along x i met = reads x i (meets-first program input met us)
@@ -493,24 +545,24 @@ module _ (flow : Flow) (h : Heights) (v : View) (all : AreOfKind v.kind v.units)
         same None good rest = absurd (none-left rest)
         same (Some q) good rest = (ls, rest, good.0)
 
-  module _ (w : Whole) (at o : ℕ) (gs : List Marks) (way : IsOnWay flow h program v dir w at o gs) (hs : List Marks) where
+  module _ (w : Whole) (at o : ℕ) (gs : List Marks) (way : IsOnWay flow h program v dir w at o gs) (p : Past at o) (hs : List Marks) where
     abbrev s : Whole
     s = whole at o way.loops gs
 
     abbrev GoodHere : Whole → Type 0
-    GoodHere u = Good w s u
+    GoodHere u = Good w s p u
 
     abbrev LeadsOn : Instruction → Type 0
-    LeadsOn i = Leads w s (led told program input dir hs i at o) (marked dir i o gs)
+    LeadsOn i = Leads w s p (led told program input dir hs i at o) (marked dir i o gs)
 
     pub place-here : (i : Instruction) → Stands program at i → reads_character i ≡ true → IsAtPlace (reading_of v) o
     place-here i here reads = (way.reads s i now here reads).0
 
     -- a repetition begins
-    enters : (f : LoopFields) → Stands program at (code.enter_loop f) → AllByRecursion GoodHere (choices f at (entered input dir f s)) → Rest w s (choices f at (entered input dir f s))
+    enters : (f : LoopFields) → Stands program at (code.enter_loop f) → AllByRecursion GoodHere (choices f at (entered input dir f s)) → Rest w s p (choices f at (entered input dir f s))
         → LeadsOn (code.enter_loop f)
     enters f here good rest =
-        chosen w s f at (entered input dir f s) (nat_le f.least 0) (ap (λ n. nat_lt n f.most) none ∙ some) (ap (nat_le f.least) none) good rest
+        chosen w s p f at (entered input dir f s) (nat_le f.least 0) (ap (λ n. nat_lt n f.most) none ∙ some) (ap (nat_le f.least) none) good rest
       where
         begun : ℕ × ℕ
         begun = (surplus f.least (room (length input.units) dir o), o)
@@ -531,7 +583,7 @@ module _ (flow : Flow) (h : Heights) (v : View) (all : AreOfKind v.kind v.units)
 
     -- an iteration ends
     goes-again : (begin : ℕ) → Stands program at (code.loop_again begin) → AllByRecursion GoodHere (successors program input (code.loop_again begin) dir s)
-        → Rest w s (successors program input (code.loop_again begin) dir s) → LeadsOn (code.loop_again begin)
+        → Rest w s p (successors program input (code.loop_again begin) dir s) → LeadsOn (code.loop_again begin)
     goes-again begin here good rest = by_flow (may.closed at (code.loop_again begin) way.running.calm here) (may.ranked at (code.loop_again begin) way.running.calm here)
       where
         by_flow : Flows flow program at (code.loop_again begin) → Ranks flow r program at (code.loop_again begin) → LeadsOn (code.loop_again begin)
@@ -540,8 +592,8 @@ module _ (flow : Flow) (h : Heights) (v : View) (all : AreOfKind v.kind v.units)
             let live-too : flow.live at f.loop_id ≡ true = subst (λ (x : LoopFields). flow.live at x.loop_id ≡ true) same live in
             let one = busy flow r last program input may.closed may.ranked may.unbounded dir f at begin o (get_or way.loops f.loop_id (0, 0)) there cycle (way.running.loops f.loop_id live-too) in
             let are = again-successors program input dir s begin f there in
-            subst (λ (x : Option Instruction). Leads w s (again_at told o begin (fields_of x)) gs) (sym there)
-            (goes-on w s f begin s (nat_lt 1 f.most) one.1 one.2 (by_idle f (AllByRecursion GoodHere) are one.0 good) (by_idle f (Rest w s) are one.0 rest))
+            subst (λ (x : Option Instruction). Leads w s p (again_at told o begin (fields_of x)) gs) (sym there)
+            (goes-on w s p f begin s (nat_lt 1 f.most) one.1 one.2 (by_idle f (AllByRecursion GoodHere) are one.0 good) (by_idle f (Rest w s p) are one.0 rest))
           where
             by_idle : (f : LoopFields) (P : List Whole → Type 0) → successors program input (code.loop_again begin) dir s ≡ (if is_idle f s then [] else choices f begin s)
                 → is_idle f s ≡ false → P (successors program input (code.loop_again begin) dir s) → P (choices f begin s)
@@ -550,14 +602,14 @@ module _ (flow : Flow) (h : Heights) (v : View) (all : AreOfKind v.kind v.units)
     -- a one-character loop
     goes-single : (least most : ℕ) (greedy : Bool) → Stands program at (code.single_loop least most greedy)
         → AllByRecursion GoodHere (successors program input (code.single_loop least most greedy) dir s)
-        → Rest w s (successors program input (code.single_loop least most greedy) dir s) → LeadsOn (code.single_loop least most greedy)
+        → Rest w s p (successors program input (code.single_loop least most greedy) dir s) → LeadsOn (code.single_loop least most greedy)
     goes-single least most greedy here = by_body (slice_get program.instructions (suc at)) refl
       where
         by_body : (x : Option Instruction) → slice_get program.instructions (suc at) ≡ x
             → AllByRecursion GoodHere (elim x [ None ↦ [] | Some i ↦ map (λ q. record s { at = suc (suc at); offset = q }) (counted program input least most greedy i dir gs o) ])
-            → Rest w s (elim x [ None ↦ [] | Some i ↦ map (λ q. record s { at = suc (suc at); offset = q }) (counted program input least most greedy i dir gs o) ])
-            → Leads w s (elim x [ None ↦ None | Some i ↦ station_at (suc (suc at)) (exit_at told program input dir hs least most greedy i (suc (suc at)) o) ]) gs
-        by_body None e good rest = absurd (none-left w s rest)
+            → Rest w s p (elim x [ None ↦ [] | Some i ↦ map (λ q. record s { at = suc (suc at); offset = q }) (counted program input least most greedy i dir gs o) ])
+            → Leads w s p (elim x [ None ↦ None | Some i ↦ station_at (suc (suc at)) (exit_at told program input dir hs least most greedy i (suc (suc at)) o) ]) gs
+        by_body None e good rest = absurd (none-left w s p rest)
         by_body (Some j) e good rest =
             let (i, stands, takes, order) = suits.closed at (code.single_loop least most greedy) here in
             let same : i ≡ j = one_stands program input (suc at) i j stands e in
@@ -565,18 +617,18 @@ module _ (flow : Flow) (h : Heights) (v : View) (all : AreOfKind v.kind v.units)
             let before : suc at ≡ suc (suc at) - 1 = omega arith in
             let there : Stands program (suc (suc at) - 1) j = subst (λ b. Stands program b j) before e in
             let body : IsBody program v (suc (suc at)) o = (j, there, takes', place-here (code.single_loop least most greedy) here refl, omega arith) in
-            subst (λ x. Leads w s (station_at (suc (suc at)) x) gs)
+            subst (λ x. Leads w s p (station_at (suc (suc at)) x) gs)
             (ap (first_at told (suc (suc at))) (counted-any program input j dir gs hs (taking-unreferring j takes') least most greedy o)
             ∙ sym (exit-is v all program suits dir hs (suc (suc at)) j there takes' told (suc (suc at)) least most greedy o body))
-            (each-goes w s (suc (suc at)) way.loops gs (counted program input least most greedy j dir gs o) good rest)
+            (each-goes w s p (suc (suc at)) way.loops gs (counted program input least most greedy j dir gs o) good rest)
 
-    by_kind : (i : Instruction) → Stands program at i → is_plain i ≡ true → AllByRecursion GoodHere (successors program input i dir s) → Rest w s (successors program input i dir s) → LeadsOn i
+    by_kind : (i : Instruction) → Stands program at i → is_plain i ≡ true → AllByRecursion GoodHere (successors program input i dir s) → Rest w s p (successors program input i dir s) → LeadsOn i
     by_kind code.goal here plain good rest = absurd (cc plain)
-    by_kind code.fail here plain good rest = absurd (none-left w s rest)
+    by_kind code.fail here plain good rest = absurd (none-left w s p rest)
     by_kind (code.back k icase) here plain good rest = absurd (may.ranked at (code.back k icase) way.running.calm here)
     by_kind (code.submatch kind low high continuation) here plain good rest = absurd (cc plain)
     by_kind (code.jump b) here plain good rest = (way.loops, rest, good.0)
-    by_kind (code.alt b) here plain good rest = two w s (suc at) b o way.loops way.loops gs good.0 good.1.0 rest
+    by_kind (code.alt b) here plain good rest = two w s p (suc at) b o way.loops way.loops gs good.0 good.1.0 rest
     by_kind (code.begin_group k) here plain good rest = (way.loops, rest, good.0)
     by_kind (code.end_group k) here plain good rest = (way.loops, rest, good.0)
     by_kind (code.reset_group k) here plain good rest = (way.loops, rest, good.0)
@@ -584,8 +636,8 @@ module _ (flow : Flow) (h : Heights) (v : View) (all : AreOfKind v.kind v.units)
     by_kind (code.loop_again begin) here plain good rest = goes-again begin here good rest
     by_kind (code.single_loop least most greedy) here plain good rest = goes-single least most greedy here good rest
     by_kind i here plain good rest =
-        moved-goes w s at o way.loops gs (advance program input i dir gs o) (advance program input i dir hs o)
-        (advance-any program input i dir gs hs o (flows-unreferring flow program at i (may.closed at i way.running.calm here))) good rest
+        moved-goes w s p at o way.loops gs (advance program input i dir gs o) (advance program input i dir hs o)
+        (advance-any program input i dir gs hs o (may.unreferring at i here)) good rest
 
     plain-on : (i : Instruction) → Stands program at i → is_plain i ≡ true → LeadsOn i
     plain-on i here plain = by_kind i here plain good rest
@@ -607,113 +659,136 @@ module _ (flow : Flow) (h : Heights) (v : View) (all : AreOfKind v.kind v.units)
             each-weaker (λ u. Live u × (On u × In u)) GoodHere (λ u both. (both.0, (both.1.0.0, (both.1.0.1, both.1.1)))) us
             (each-both Live (λ u. On u × In u) us (running-step flow r v all program suits may.closed may.ranked dir s i way.running here plain reads)
             (each-both On In us (leads-beyond flow r v all program suits may.closed may.ranked dir s i way.running.calm here plain reads)
-            (each-lies v all program suits dir i s (flows-unreferring flow program at i (may.closed at i way.running.calm here)) here plain way.within (place-here i here))))
+            (each-lies v all program suits dir i s (may.unreferring at i here) here plain way.within (place-here i here))))
 
-        rest : Rest w s (successors program input i dir s)
+        rest : Rest w s p (successors program input i dir s)
         rest =
             let (m, run) = run-onward program input dir i s way.steps (Some w) here plain way.run in
             (m, run, reads-on flow r v all program suits may.closed may.ranked dir i s here plain way.reads)
 
-    comes-way : (b q : ℕ) (ms : List Marks) → Comes w s b q ms → IsOnWay flow h program v dir w b q ms
+    comes-way : (b q : ℕ) (ms : List Marks) → Comes w s p b q ms → IsOnWay flow h program v dir w b q ms
     comes-way b q ms (loops, (m, run, reads), (live, (beyond, lies))) =
         record { loops = loops; steps = m; running = live; there = lies.0; within = lies.1; reads = reads; run = run }
 
-    -- at a lookaround
-    module _ (negated backward : Bool) (low high continuation : ℕ) (here : Stands program at (code.submatch (lookaround negated backward) low high continuation)) where
+    -- at what is matched by itself
+    module _ (kind : Submatch) (low high continuation : ℕ) (here : Stands program at (code.submatch kind low high continuation)) where
       abbrev look : Instruction
-      look = code.submatch (lookaround negated backward) low high continuation
+      look = code.submatch kind low high continuation
 
-      lowers : Lowers r 0 at continuation
-      lowers = (may.ranked at look way.running.calm here).0
-
-      good : (ms : List Marks) → Good w s (whole continuation o way.loops ms)
-      good ms = (
-        running-behind flow r v all program suits may.closed may.ranked dir (lookaround negated backward) low high continuation s way.running here o ms (inl refl),
-        (inr (refl, elim lowers.rank [ inl never ↦ absurd (omega (arith, never)) | inr less ↦ less ]), (lowers.within, way.within)),
+      -- behind it, at its offset or further
+      good : (q : ℕ) → IsOnward last dir o q → q ≤ last → (ms : List Marks) → Good w s p (whole continuation q way.loops ms)
+      good q on lies ms = (
+        running-behind flow r v all program suits may.closed may.ranked dir kind low high continuation s way.running here q ms on,
+        (by_place on lowers.rank, (lowers.within, lies)),
       )
+        where
+          lowers : Lowers r 0 at continuation
+          lowers = (may.ranked at look way.running.calm here).0
+
+          by_place : IsOnward last dir o q → (1 ≤ 0) ⊎ (r.rank continuation < r.rank at) → IsBeyond r last dir s (whole continuation q way.loops ms)
+          by_place on (inl never) = absurd (omega (arith, never))
+          by_place (inl same) (inr less) = inr (same, less)
+          by_place (inr further) (inr less) = inl further
 
       -- a run of the contents, and the rest behind it
-      look-runs : (q : Option Whole) × ((m : ℕ) × Run program input (submatch_direction (lookaround negated backward) dir) (onward s ∷ []) m q)
-          × Rest w s (after_submatch (lookaround negated backward) low high continuation s q)
+      look-runs : (q : Option Whole) × ((m : ℕ) × Run program input (submatch_direction kind dir) (onward s ∷ []) m q) × Rest w s p (after_submatch kind low high continuation s q)
       look-runs = by_parts (run_looks program input look here refl (λ e. absurd (cc e)) way.run)
         where
-          by_parts : AtLook program input dir s [] way.steps (Some w) look → (q : Option Whole)
-              × ((m : ℕ) × Run program input (submatch_direction (lookaround negated backward) dir) (onward s ∷ []) m q)
-              × Rest w s (after_submatch (lookaround negated backward) low high continuation s q)
+          by_parts : AtLook program input dir s [] way.steps (Some w) look
+              → (q : Option Whole) × ((m : ℕ) × Run program input (submatch_direction kind dir) (onward s ∷ []) m q) × Rest w s p (after_submatch kind low high continuation s q)
           by_parts (q, m, k, count, inner, next) = (
             q,
             (m, inner),
             (
               k,
-              subst (λ us. Run program input dir us k (Some w)) (append-nil (after_submatch (lookaround negated backward) low high continuation s q)) next,
+              subst (λ us. Run program input dir us k (Some w)) (append-nil (after_submatch kind low high continuation s q)) next,
               λ u j met. way.reads u j (behind here (m, inner) (meets-first program input met [])),
             ),
           )
 
+      -- the way into them
+      anew : (t : Whole) (m : ℕ) → Run program input (submatch_direction kind dir) (onward s ∷ []) m (Some t) → IsOnWay flow h program v (submatch_direction kind dir) t (suc at) o gs
+      anew t m run = record {
+        loops = way.loops;
+        steps = m;
+        running = running-inside flow r v all program suits may.closed may.ranked dir kind low high continuation s way.running here;
+        there = (may.ranked at look way.running.calm here).1.within;
+        within = way.within;
+        reads = λ u j met. way.reads u j (inside here met);
+        run = run;
+      }
+
     -- past a lookaround
     look-past : (negated backward : Bool) (low high continuation : ℕ) → Stands program at (code.submatch (lookaround negated backward) low high continuation)
-        → is_entered (code.submatch (lookaround negated backward) low high continuation) ≡ false → Comes w s continuation o gs
-    look-past negated backward low high continuation here past =
-        let (q, inner, rest) = look-runs negated backward low high continuation here in by_answer negated q here past (good negated backward low high continuation here) rest
+        → is_entered (code.submatch (lookaround negated backward) low high continuation) ≡ false → Comes w s p continuation o gs
+    look-past negated backward low high continuation here past' =
+        let (q, inner, rest) = look-runs (lookaround negated backward) low high continuation here in
+        by_answer negated q here past' (good (lookaround negated backward) low high continuation here o (inl refl) way.within) rest
       where
         by_answer : (negated : Bool) (q : Option Whole) → Stands program at (code.submatch (lookaround negated backward) low high continuation)
-            → is_entered (code.submatch (lookaround negated backward) low high continuation) ≡ false → ((ms : List Marks) → Good w s (whole continuation o way.loops ms))
-            → Rest w s (after_submatch (lookaround negated backward) low high continuation s q) → Comes w s continuation o gs
+            → is_entered (code.submatch (lookaround negated backward) low high continuation) ≡ false → ((ms : List Marks) → Good w s p (whole continuation o way.loops ms))
+            → Rest w s p (after_submatch (lookaround negated backward) low high continuation s q) → Comes w s p continuation o gs
         by_answer true None there plain fine rest = (way.loops, rest, fine gs)
-        by_answer true (Some t) there plain fine rest = absurd (none-left w s rest)
-        by_answer false None there plain fine rest = absurd (none-left w s rest)
+        by_answer true (Some t) there plain fine rest = absurd (none-left w s p rest)
+        by_answer false None there plain fine rest = absurd (none-left w s p rest)
         by_answer false (Some t) there plain fine rest =
             let none : high ≤ low = grind (arith, nat_tests, plain) in
-            subst (λ (ms : List Marks). Comes w s continuation o ms) (mixed-none 0 low high t.groups gs none) (way.loops, rest, fine (mixed 0 low high t.groups gs))
+            subst (λ (ms : List Marks). Comes w s p continuation o ms) (mixed-none 0 low high t.groups gs none) (way.loops, rest, fine (mixed 0 low high t.groups gs))
 
     -- into the contents of one, and behind it with the groups inside that these have written
     pub look-into : (backward : Bool) (low high continuation : ℕ) → Stands program at (code.submatch (lookaround false backward) low high continuation)
-        → (t : Whole) × IsOnWay flow h program v (direction_of (not backward)) t (suc at) o gs × IsOnWay flow h program v dir w continuation o (mixed 0 low high t.groups gs)
+        → (t : Whole) × IsOnWay flow h program v (direction_of (not backward)) t (suc at) o gs × IsOnWay flow h program v dir w continuation o (mixed 0 low high t.groups gs) × Past continuation o
     look-into backward low high continuation here =
-        let (q, (m, inner), rest) = look-runs false backward low high continuation here in by_answer q m inner rest
+        let (q, (m, inner), rest) = look-runs (lookaround false backward) low high continuation here in by_answer q m inner rest
       where
-        inside-is : Inside r (lookaround false backward) at
-        inside-is = (may.ranked at (code.submatch (lookaround false backward) low high continuation) way.running.calm here).1
-
         turned : (b : Bool) → submatch_direction (lookaround false b) dir ≡ direction_of (not b)
         turned true = refl
         turned false = refl
 
-        anew : (t : Whole) (m : ℕ) → Run program input (submatch_direction (lookaround false backward) dir) (onward s ∷ []) m (Some t)
-            → IsOnWay flow h program v (submatch_direction (lookaround false backward) dir) t (suc at) o gs
-        anew t m run = record {
-          loops = way.loops;
-          steps = m;
-          running = running-inside flow r v all program suits may.closed may.ranked dir (lookaround false backward) low high continuation s way.running here;
-          there = inside-is.within;
-          within = way.within;
-          reads = λ u j met. way.reads u j (inside here met);
-          run = run;
-        }
-
         by_answer : (q : Option Whole) (m : ℕ) → Run program input (submatch_direction (lookaround false backward) dir) (onward s ∷ []) m q
-            → Rest w s (after_submatch (lookaround false backward) low high continuation s q)
-            → (t : Whole) × IsOnWay flow h program v (direction_of (not backward)) t (suc at) o gs × IsOnWay flow h program v dir w continuation o (mixed 0 low high t.groups gs)
-        by_answer None m inner rest = absurd (none-left w s rest)
-        by_answer (Some t) m inner rest = (
-          t,
-          subst (λ d. IsOnWay flow h program v d t (suc at) o gs) (turned backward) (anew t m inner),
-          comes-way continuation o (mixed 0 low high t.groups gs) (way.loops, rest, good false backward low high continuation here (mixed 0 low high t.groups gs)),
-        )
+            → Rest w s p (after_submatch (lookaround false backward) low high continuation s q)
+            → (t : Whole) × IsOnWay flow h program v (direction_of (not backward)) t (suc at) o gs × IsOnWay flow h program v dir w continuation o (mixed 0 low high t.groups gs) × Past continuation o
+        by_answer None m inner rest = absurd (none-left w s p rest)
+        by_answer (Some t) m inner rest =
+            let ms : List Marks = mixed 0 low high t.groups gs in
+            let fine = good (lookaround false backward) low high continuation here o (inl refl) way.within ms in (
+              t,
+              subst (λ d. IsOnWay flow h program v d t (suc at) o gs) (turned backward) (anew (lookaround false backward) low high continuation here t m inner),
+              comes-way continuation o ms (way.loops, rest, fine),
+              past s (whole continuation o way.loops ms) p fine.1.0,
+            )
+
+    -- into the contents of one, and behind it
+    pub atomic-into : (low high continuation : ℕ) → Stands program at (code.submatch atomic low high continuation)
+        → (t : Whole) × IsOnWay flow h program v dir t (suc at) o gs × IsOnWay flow h program v dir w continuation t.offset (mixed 0 low high t.groups gs) × IsOnward last dir o t.offset
+    atomic-into low high continuation here =
+        let (q, (m, inner), rest) = look-runs atomic low high continuation here in by_answer q m inner rest (atomic-ends flow h v all program suits may dir at o low high continuation way.loops gs way.running here way.reads m q inner way.within)
+      where
+        by_answer : (q : Option Whole) (m : ℕ) → Run program input dir (onward s ∷ []) m q → Rest w s p (after_submatch atomic low high continuation s q)
+            → IfSome q (λ t. IsOnward last dir o t.offset × (t.offset ≤ last))
+            → (t : Whole) × IsOnWay flow h program v dir t (suc at) o gs × IsOnWay flow h program v dir w continuation t.offset (mixed 0 low high t.groups gs) × IsOnward last dir o t.offset
+        by_answer None m inner rest on = absurd (none-left w s p rest)
+        by_answer (Some t) m inner rest (on, lies) =
+            let ms : List Marks = mixed 0 low high t.groups gs in (
+              t,
+              anew atomic low high continuation here t m inner,
+              comes-way continuation t.offset ms (way.loops, rest, good atomic low high continuation here t.offset on lies ms),
+              on,
+            )
 
     -- From each state but that of the goal the way leads on, but into the contents of a lookaround.
     pub leads-on : (i : Instruction) → Stands program at i → (i ≡ code.goal → ⊥) → is_entered i ≡ false → LeadsOn i
-    leads-on code.goal here other past = absurd (other refl)
-    leads-on (code.submatch (lookaround negated backward) low high continuation) here other past =
-        look-past negated backward low high continuation here past
-    leads-on (code.submatch atomic low high continuation) here other past = absurd (may.leaves at low high continuation atomic here)
-    leads-on i here other past = plain-on i here refl
+    leads-on code.goal here other out = absurd (other refl)
+    leads-on (code.submatch (lookaround negated backward) low high continuation) here other out =
+        look-past negated backward low high continuation here out
+    leads-on (code.submatch atomic low high continuation) here other out = absurd (cc out)
+    leads-on i here other out = plain-on i here refl
 
     -- it stays on its way, and comes nearer
     pub on-way : (i : Instruction) → Stands program at i → is_entered i ≡ false → (x : Station) → led told program input dir hs i at o ≡ Some x
         → IsOnWay flow h program v dir w x.at x.offset (marked dir i o gs) × (ls : List (ℕ × ℕ)) × IsBeyond r last dir s (whole x.at x.offset ls (marked dir i o gs))
-    on-way i here past x e =
-        let comes = subst (λ (y : Option Station). Leads w s y (marked dir i o gs)) e (leads-on i here other past) in
+    on-way i here out x e =
+        let comes = subst (λ (y : Option Station). Leads w s p y (marked dir i o gs)) e (leads-on i here other out) in
         (comes-way x.at x.offset (marked dir i o gs) comes, comes.0, comes.2.1.0)
       where
         other : i ≡ code.goal → ⊥
@@ -723,18 +798,26 @@ module _ (flow : Flow) (h : Heights) (v : View) (all : AreOfKind v.kind v.units)
     pub ends-way : (i : Instruction) → Stands program at i → led told program input dir hs i at o ≡ None → i ≡ code.goal
     ends-way code.goal here e = refl
     ends-way (code.submatch kind low high continuation) here e = absurd (cc e)
-    ends-way i here e = absurd (subst (λ (y : Option Station). Leads w s y (marked dir i o gs)) e (plain-on i here refl))
+    ends-way i here e = absurd (subst (λ (y : Option Station). Leads w s p y (marked dir i o gs)) e (plain-on i here refl))
 
     -- there the run has come to its answer
     pub at-goal : Stands program at code.goal → w ≡ s
     at-goal here = let e = (run_found program input here way.run).1 in cc
 
+    -- it is told that it has an answer
+    pub told-here : told at o ≡ true
+    told-here = by_end (told-there s way.running (way.there, way.within) p way.loops gs way.running way.reads)
+      where
+        by_end : Ends program input dir (s ∷ []) (told at o) → told at o ≡ true
+        by_end (k, Some t, run, some) = sym some
+        by_end (k, None, run, some) = let never = (one_run program input run way.run).1 in absurd (cc never)
+
     -- what stands there may be asked
     pub ready-here : length hs ≡ program.groups → (i : Instruction) → Stands program at i → is_simple i ≡ true → IsReady program v i hs o
     ready-here count i here simple =
         simple-ready program v suits i (whole at o [] hs) here simple count
-        (λ reads. reads-there v i (whole at o [] hs) (flows-unreferring flow program at i (may.closed at i way.running.calm here)) (way.reads s i now here reads).0)
+        (λ reads. reads-there v i (whole at o [] hs) (may.unreferring at i here) (way.reads s i now here reads).0)
 
-  -- a rank is less than their number
-  pub rank-low : (at : ℕ) → at < length h.ranks → rank_at h at < length h.order
-  rank-low at there = slice_get_within h.order (rank_at h at) at (may.placed at there)
+-- a rank is less than their number
+pub rank-low : (h : Heights) → ArePlaced h (length h.ranks) → (at : ℕ) → at < length h.ranks → rank_at h at < length h.order
+rank-low h placed at there = slice_get_within h.order (rank_at h at) at (placed at there)

@@ -1,5 +1,5 @@
 -- The way along what is told to have an answer.
-use Rattle.std.specs.Prelude.{◌≡◌, ℕ, suc, ◌+◌, ◌-◌, ◌*◌, ◌<◌, ◌≤◌, Bool, true, false, not, List, [], ◌∷◌, length, reverse, Option, Some, None, if◌then◌else◌, get_or, nat_le, nat_lt, slice_get, slice_set}
+use Rattle.std.specs.Prelude.{◌≡◌, ℕ, zero, suc, ◌+◌, ◌-◌, ◌*◌, ◌<◌, ◌≤◌, Bool, true, false, not, List, [], ◌∷◌, length, reverse, Option, Some, None, if◌then◌else◌, get_or, nat_le, nat_lt, slice_get, slice_set}
 use Rattle.regress_meaning.specs.Meaning.{Direction, Forward}
 use Rattle.regress_meaning.specs.Inputs.{Input}
 use Rattle.regress_front_nodes.specs.Trees.{Submatch, lookaround, atomic}
@@ -7,14 +7,14 @@ use Rattle.regress_engine_input.specs.Views.{View, direction_of, input_of, readi
 use Rattle.regress_engine_insn.specs.Instructions.{LoopFields, Instruction, Program, Stands}
 use Rattle.regress_engine_insn.specs.Instructions as code
 use Rattle.regress_engine_runs.specs.Items.{Answers as EndsIn}
-use Rattle.regress_engine_runs.specs.Meets.{IsAtPlace}
+use Rattle.regress_engine_runs.specs.Meets.{IsAtPlace, referred}
 use Rattle.regress_engine_runs.specs.Runs.{Run, advance, after_times, fields_of, one_by_one, room}
 use Rattle.regress_engine_runs.specs.States.{Marks, Whole, begun, ended, mixed, unset}
 use Rattle.regress_engine_runs.specs.UndoStack.{whole}
 use Rattle.regress_engine_memory.specs.Flow.{Flow, IsFlow}
 use Rattle.regress_engine_linear.specs.Ranks.{AreRanked, AreRunning, AreUnboundedOrOnce}
 use Rattle.regress_engine_linear.specs.RankTables.{ArePlaced, Heights, forward_at, rank_at, ranking_of}
-use Rattle.regress_engine_linear.specs.Answered.{ReadsAlong, one_at}
+use Rattle.regress_engine_linear.specs.Answered.{ReadsAlong, answer_at, one_at}
 use Rattle.regress_engine_answers.specs.AnswerTables.{exits_by, told_by}
 use Rattle.regress_engine_linear.specs.Linear.{AreLoopFree, LeavesGroups}
 use Rattle.regress_engine_answers.specs.Filled.{AreRight, IsExitRight}
@@ -37,9 +37,10 @@ marked dir (code.end_group k) o groups = slice_set groups k (ended dir o (get_or
 marked dir (code.reset_group k) o groups = slice_set groups k unset
 marked dir _ o groups = groups
 
--- the contents of a lookaround are gone through: groups are inside, and it is not negated
+-- contents are gone through: those of an atomic group, and of a lookaround that is not negated and has groups inside
 abbrev pub is_entered : Instruction → Bool
 is_entered (code.submatch (lookaround false backward) first last continuation) = nat_lt first last
+is_entered (code.submatch atomic first last continuation) = true
 is_entered _ = false
 
 -- an address and an offset
@@ -121,26 +122,35 @@ pub record Walk : Type 0 where
 abbrev pub walk_of : Walker → Walk
 walk_of w = record { at = w.here.at; offset = w.here.offset; forward = w.forward; frames = reverse w.frames.items }
 
--- where the way goes on behind contents, at an offset, and how it is read there
-abbrev pub frame : (continuation offset : ℕ) → (forward : Bool) → Frame
-frame continuation offset forward = record { continuation = continuation; offset = offset; forward = forward }
+-- behind contents it goes on at the offset where they began, or, of an atomic group, where they end
+abbrev pub returns : Submatch → Bool
+returns (lookaround negated backward) = true
+returns atomic = false
+
+-- where the way goes on behind contents that began at an offset, how it is read there, and whether it goes back to that offset
+abbrev pub frame : (continuation offset : ℕ) → (forward returning : Bool) → Frame
+frame continuation offset forward returning = record { continuation = continuation; offset = offset; forward = forward; returns = returning }
+
+-- the offset at which it goes on, where contents end at another
+abbrev pub offset_behind : Frame → (o : ℕ) → ℕ
+offset_behind f o = if f.returns then f.offset else o
 
 -- whether contents are read forward
 abbrev pub inside_forward : Submatch → (forward : Bool) → Bool
 inside_forward (lookaround negated backward) forward = not backward
 inside_forward atomic forward = forward
 
--- where contents begin that are gone through: behind them it goes on at the offset where they began
+-- where contents begin that are gone through
 abbrev pub entered : Instruction → Walk → Walk
 entered (code.submatch kind first last continuation) w =
-    record { at = suc w.at; offset = w.offset; forward = inside_forward kind w.forward; frames = frame continuation w.offset w.forward ∷ w.frames }
+    record { at = suc w.at; offset = w.offset; forward = inside_forward kind w.forward; frames = frame continuation w.offset w.forward (returns kind) ∷ w.frames }
 entered i w = w
 
 -- Where a walk goes on behind an instruction that leads to an address and an offset, or inside of its contents; and where it leads nowhere,
 -- behind the innermost contents. Outside of all contents it has come to its end.
 abbrev pub goes : Instruction → Option Station → Walk → Option Walk
 goes i (Some x) w = Some (if is_entered i then entered i w else record w { at = x.at; offset = x.offset })
-goes i None w = elim w.frames [ [] ↦ None | f ∷ fs ↦ Some (record { at = f.continuation; offset = f.offset; forward = f.forward; frames = fs }) ]
+goes i None w = elim w.frames [ [] ↦ None | f ∷ fs ↦ Some (record { at = f.continuation; offset = offset_behind f w.offset; forward = f.forward; frames = fs }) ]
 
 -- What is told of the exits of a one-character loop, from one address to another, is so: behind at least one more character one of them is
 -- told of.
@@ -154,14 +164,19 @@ AreExitsTold program v dir groups a i from to = (o : ℕ) → IsAtPlace (reading
 abbrev pub AreExitsKnown : Flow → Heights → Program → View → Answers → Type 0
 AreExitsKnown flow h program v a = (at o : ℕ) → at < length h.ranks → forward_at h at ≡ true → o ≤ length v.units → IsExitRight flow h program v a at o
 
--- What a program and a table of answers are to be so that it may be walked along what is told.
-pub record MayWalk (flow : Flow) (h : Heights) (program : Program) (v : View) (a : Answers) : Type 0 where
+-- What a program is to be so that ways through it may be followed.
+pub record MayPass (flow : Flow) (h : Heights) (program : Program) (v : View) : Type 0 where
   pub closed : IsFlow flow program
   pub ranked : AreRanked flow (ranking_of h) program
   pub placed : ArePlaced h (length h.ranks)
   pub unbounded : AreUnboundedOrOnce (length v.units) program
+  pub unreferring : (at : ℕ) (i : Instruction) → Stands program at i → referred i ≡ None
   pub leaves : (at first last continuation : ℕ) (kind : Submatch) → Stands program at (code.submatch kind first last continuation)
       → LeavesGroups h program at kind first last continuation
+
+-- And with a table of answers, so that it may be walked along what is told.
+pub record MayWalk (flow : Flow) (h : Heights) (program : Program) (v : View) (a : Answers) : Type 0 where
+  pub pass : MayPass flow h program v
   pub there : 0 < length h.ranks
   pub calm : flow.calm 0 ≡ true
   pub forward : forward_at h 0 ≡ true
@@ -183,15 +198,20 @@ pub record IsOnWay (flow : Flow) (h : Heights) (program : Program) (v : View) (d
 abbrev pub AreKept : (first last : ℕ) → (new old : List Marks) → Type 0
 AreKept first last new old = (length new ≡ length old) × ((k : ℕ) → (first ≤ k → k < last → ⊥) → get_or new k unset ≡ get_or old k unset)
 
--- An address lies in the contents without loops of a lookaround that goes on at another, and the groups outside are as they were before it.
+-- An address lies in contents without loops behind which it goes on at another, and the groups outside are as they were before them.
 pub record IsInside (h : Heights) (program : Program) (continuation at : ℕ) (groups before : List Marks) : Type 0 where
   pub look : ℕ
   pub first : ℕ
   pub last : ℕ
-  pub free : AreLoopFree h program look first last continuation
+  pub nests : Bool
+  pub free : AreLoopFree h program nests look first last continuation
   pub after : look < at
   pub ahead : at < continuation
   pub kept : AreKept first last groups before
+
+-- An offset lies in contents: those of an atomic group are read as what is around them, and it is no further back than where they began.
+abbrev pub IsAhead : (last : ℕ) → Frame → (forward : Bool) → (o : ℕ) → Type 0
+IsAhead last f forward o = f.returns ≡ false → (forward ≡ f.forward) × (f.forward ≡ true → room last Forward o ≤ room last Forward f.offset)
 
 module _ (flow : Flow) (h : Heights) (program : Program) (v : View) where
   -- A walk that began at an offset has come to an address and an offset, with some groups. Outside of all contents a run from there has the
@@ -202,10 +222,36 @@ module _ (flow : Flow) (h : Heights) (program : Program) (v : View) where
       (forward ≡ true) × ((answer : Whole) × IsOnWay flow h program v Forward answer at o groups × EndsIn program (input_of v) start (Some answer))
   Walks start (f ∷ fs) forward at o groups =
       (answer : Whole) × (before : List Marks) × IsOnWay flow h program v (direction_of forward) answer at o groups
-      × (x : IsInside h program f.continuation at groups before) × Walks start fs f.forward f.continuation f.offset (mixed 0 x.first x.last answer.groups before)
+      × (x : IsInside h program f.continuation at groups before) × IsAhead (length v.units) f forward o
+      × Walks start fs f.forward f.continuation (offset_behind f answer.offset) (mixed 0 x.first x.last answer.groups before)
 
 module _ (h : Heights) (v : View) where
   -- How far it is to the end of the text: so many addresses for each offset, and the ranks below; inside of contents the addresses up to their end.
   abbrev pub far : List Frame → (at o : ℕ) → ℕ
   far [] at o = room (length v.units) Forward o * length h.order + rank_at h at
   far (f ∷ fs) at o = far fs f.continuation f.offset + (f.continuation - at)
+
+-- ---- where contents end
+
+-- it is told of an address, at an offset if there is one
+abbrev pub told_if : (told : ℕ → ℕ → Bool) → (at : ℕ) → Option ℕ → Bool
+told_if told at None = false
+told_if told at (Some o) = told at o
+
+module _ (told : ℕ → ℕ → Bool) (program : Program) (input : Input) (dir : Direction) (groups : List Marks) where
+  -- At a goal it is there; else the rest of the way tells it, from where the instruction leads. Behind a one-character loop it is not looked for.
+  abbrev pub end_by : (rest : ℕ → ℕ → Option ℕ) → (at o : ℕ) → Option Instruction → Option ℕ
+  end_by rest at o None = None
+  end_by rest at o (Some code.goal) = Some o
+  end_by rest at o (Some (code.single_loop least most greedy)) = None
+  end_by rest at o (Some i) = elim (led told program input dir groups i at o) [ None ↦ None | Some x ↦ rest x.at x.offset ]
+
+  -- Where the preferred way through contents ends, from an address and an offset on along what is told, in at most so many steps.
+  unfoldable pub contents_end : ℕ → (at o : ℕ) → Option ℕ
+  contents_end zero at o = None
+  contents_end (suc n) at o = if told at o then end_by (λ b q. contents_end n b q) at o (slice_get program.instructions at) else None
+
+  -- What is worked out of an address and an offset. Of an atomic group it is told by where its contents end.
+  abbrev pub value_at : Instruction → (at o : ℕ) → Bool
+  value_at (code.submatch atomic first last continuation) at o = told_if told continuation (contents_end (continuation - at) (suc at) o)
+  value_at i at o = answer_at told program input dir i at o

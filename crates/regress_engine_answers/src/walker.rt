@@ -2,7 +2,7 @@
 ghost use Rattle.std.specs.Prelude.{◌≡◌, ◌+◌, ◌^◌, ◌<◌, suc, [], ◌∷◌, true, None, Some, IfOk, OnOk, if◌then◌else◌};
 ghost use Rattle.regress_engine_insn.specs.Instructions.{fail};
 ghost use Rattle.regress_engine_insn.specs.InsnViews.{instruction};
-ghost use Rattle.regress_engine_answers.specs.Walked.{entered, frame, goes, is_entered, walk_of};
+ghost use Rattle.regress_engine_answers.specs.Walked.{entered, frame, goes, is_entered, offset_behind, walk_of};
 
 use regress_engine_insn::Insn;
 use std::alloc::{AllocError, Global};
@@ -21,10 +21,21 @@ pub(crate) struct Station {
 pub(crate) struct Frame {
     /// The address.
     pub(crate) continuation: usize,
-    /// The offset: where the contents began.
+    /// The offset where the contents began.
     pub(crate) offset: usize,
     /// Whether it is read forward there.
     pub(crate) forward: bool,
+    /// Whether it goes back to that offset; else it stays where the contents end.
+    pub(crate) returns: bool,
+}
+
+impl Frame {
+    /// The offset at which it goes on, where the contents end at another.
+    fn offset_behind(&self, end: usize) -> usize
+        ensures { result ≡ offset_behind self.now end }
+    {
+        if self.returns { self.offset } else { end }
+    }
 }
 
 /// Where a walk stands.
@@ -38,7 +49,7 @@ pub(crate) struct Walker {
     pub(crate) frames: Vec<Frame>,
 }
 
-/// Whether the contents of a lookaround are gone through: groups are inside, and it is not negated.
+/// Whether contents are gone through: those of an atomic group, and of a lookaround that is not negated and has groups inside.
 pub(crate) fn is_entered(insn: &Insn) -> bool
     ensures { result ≡ is_entered (instruction insn.now) }
 {
@@ -55,6 +66,7 @@ pub(crate) fn is_entered(insn: &Insn) -> bool
             end_group,
             ..
         } => !*negate && start_group < end_group,
+        Insn::Atomic { .. } => true,
         _ => false,
     }
 }
@@ -74,20 +86,22 @@ impl Walker {
         }
     }
 
-    /// Begins contents that are read forward, or backward, and behind which it goes on at an address. It errs where memory is refused.
-    fn push(&mut self, continuation: usize, forward: bool) -> Result<(), AllocError>
+    /// Begins contents that are read forward, or backward, and behind which it goes on at an address: at this offset, or where they end. It
+    /// errs where memory is refused.
+    fn push(&mut self, continuation: usize, forward: bool, returns: bool) -> Result<(), AllocError>
         requires { self.old.here.at + 1 < 2 ^ 64 }
         ensures { OnOk result (walk_of self.new ≡ record {
           at = suc self.old.here.at;
           offset = self.old.here.offset;
           forward = forward;
-          frames = frame continuation self.old.here.offset self.old.forward ∷ (walk_of self.old).frames;
+          frames = frame continuation self.old.here.offset self.old.forward returns ∷ (walk_of self.old).frames;
         }) }
     {
         self.frames.push(Frame {
             continuation,
             offset: self.here.offset,
             forward: self.forward,
+            returns,
         })?;
         self.here.at += 1;
         self.forward = forward;
@@ -100,9 +114,13 @@ impl Walker {
         ensures { OnOk result (walk_of self.new ≡ entered (instruction insn.now) (walk_of self.old)) }
     {
         match insn {
-            Insn::Lookahead { continuation, .. } => self.push(*continuation as usize, true),
-            Insn::Lookbehind { continuation, .. } => self.push(*continuation as usize, false),
-            Insn::Atomic { continuation, .. } => self.push(*continuation as usize, self.forward),
+            Insn::Lookahead { continuation, .. } => self.push(*continuation as usize, true, true),
+            Insn::Lookbehind { continuation, .. } => self.push(*continuation as usize, false, true),
+            Insn::Atomic { continuation, .. } => self.push(
+                *continuation as usize,
+                self.forward,
+                false,
+            ),
             _ => Ok(()),
         }
     }
@@ -116,7 +134,7 @@ impl Walker {
         };
         self.here = Station {
             at: frame.continuation,
-            offset: frame.offset,
+            offset: frame.offset_behind(self.here.offset),
         };
         self.forward = frame.forward;
         true

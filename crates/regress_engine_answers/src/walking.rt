@@ -325,7 +325,7 @@ impl<'a, Input: ExecutorInput> Answering<'a, Input> {
     }
 
     /// Where the way goes on from an address and an offset, by an instruction that is no one-character loop.
-    fn led_on(
+    pub(crate) fn led_on(
         &self,
         answers: &Answers,
         insn: &Insn,

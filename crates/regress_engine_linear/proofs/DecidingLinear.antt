@@ -52,18 +52,18 @@ module _ (t : Table) (h : Heights) (program : Program) (flows : is_flow t progra
     | inr is ↦ inr (eqb-true most 1 is)
   ]
 
-  loop-free : (at first last end : ℕ) → are_loop_free h program at first last end ≡ true → AreLoopFree h program at first last end
-  loop-free at first last end e =
-      let a = and_parts (nat_lt (suc at) end && nat_le (rank_at h end + (end - at)) (rank_at h at)) (all_pass (leads_inside at first last end) 0 program.instructions) e in
+  loop-free : (nests : Bool) (at first last end : ℕ) → are_loop_free h program nests at first last end ≡ true → AreLoopFree h program nests at first last end
+  loop-free nests at first last end e =
+      let a = and_parts (nat_lt (suc at) end && nat_le (rank_at h end + (end - at)) (rank_at h at)) (all_pass (leads_inside nests at first last end) 0 program.instructions) e in
       let b = and_parts (nat_lt (suc at) end) (nat_le (rank_at h end + (end - at)) (rank_at h at)) a.0 in
       record {
         some = ltb-true (suc at) end b.0;
-        leads = λ k i after ahead here. inside k i after ahead (each-passes (leads_inside at first last end) program a.1 k i here);
+        leads = λ k i after ahead here. inside k i after ahead (each-passes (leads_inside nests at first last end) program a.1 k i here);
         ranks = leb-true (rank_at h end + (end - at)) (rank_at h at) b.1;
       }
     where
-      inside : (k : ℕ) (i : Instruction) → at < k → k < end → ((nat_le k at || nat_le end k) || leads_through first last end k i) ≡ true → leads_through first last end k i ≡ true
-      inside k i after ahead passes = elim (or_cases (nat_le k at || nat_le end k) (leads_through first last end k i) passes) [
+      inside : (k : ℕ) (i : Instruction) → at < k → k < end → ((nat_le k at || nat_le end k) || leads_through nests first last end k i) ≡ true → leads_through nests first last end k i ≡ true
+      inside k i after ahead passes = elim (or_cases (nat_le k at || nat_le end k) (leads_through nests first last end k i) passes) [
         | inl out ↦ elim (or_cases (nat_le k at) (nat_le end k) out) [
           | inl low ↦ let x = leb-true k at low in absurd (omega (arith, x, after))
           | inr high ↦ let x = leb-true end k high in absurd (omega (arith, x, ahead))
@@ -73,12 +73,12 @@ module _ (t : Table) (h : Heights) (program : Program) (flows : is_flow t progra
 
   leaving : (at first last end : ℕ) (kind : Submatch) → Stands program at (code.submatch kind first last end) → LeavesGroups h program at kind first last end
   leaving at first last end (lookaround true backward) here = tt
-  leaving at first last end (lookaround false backward) here = λ some. elim (or_cases (nat_le last first) (are_loop_free h program at first last end)
+  leaving at first last end (lookaround false backward) here = λ some. elim (or_cases (nat_le last first) (are_loop_free h program true at first last end)
       (each-passes (leaves_groups h program) program leave at (code.submatch (lookaround false backward) first last end) here)) [
         | inl none ↦ let x = leb-true last first none in absurd (omega (arith, x, some))
-        | inr free ↦ loop-free at first last end free
+        | inr free ↦ loop-free true at first last end free
       ]
-  leaving at first last end atomic here = let never : false ≡ true = (one at (code.submatch atomic first last end) here).1 in absurd (cc never)
+  leaving at first last end atomic here = loop-free false at first last end (each-passes (leaves_groups h program) program leave at (code.submatch atomic first last end) here)
 
   pub linear-decides : IsLinear (flow_of t) h program
   linear-decides =

@@ -11,3 +11,6 @@ pub mod NextPlaces
 pub mod DecidingLinear
 pub mod ExitAnswers
 pub mod PassageLemmas
+pub mod WorkLemmas
+pub mod MixedLemmas
+pub mod ExitWays

@@ -12,26 +12,26 @@ use Rattle.regress_engine_memory.proofs.TableLemmas.{tested, tested-end, tested-
 use Rattle.regress_engine_linear.specs.Linear.{leads_through}
 use Rattle.regress_engine_linear.specs.LinearTests.{leads_inside}
 
-module _ (at first last end : ℕ) where
+module _ (nests : Bool) (at first last end : ℕ) where
   abbrev test : ℕ → Instruction → Bool
-  test = leads_inside at first last end
+  test = leads_inside nests at first last end
 
   -- what stands before passes
   before-passes : (b : ℕ) (i : Instruction) → b ≤ at → test b i ≡ true
-  before-passes b i low = ap (λ (x : Bool). (x || nat_le end b) || leads_through first last end b i) (le-leb b at low)
+  before-passes b i low = ap (λ (x : Bool). (x || nat_le end b) || leads_through nests first last end b i) (le-leb b at low)
 
   -- what stands behind passes
   behind-passes : (b : ℕ) (i : Instruction) → end ≤ b → test b i ≡ true
-  behind-passes b i high = by_value (nat_le b at) (leads_through first last end b i) (le-leb end b high)
+  behind-passes b i high = by_value (nat_le b at) (leads_through nests first last end b i) (le-leb end b high)
     where
       by_value : (x y : Bool) → nat_le end b ≡ true → ((x || nat_le end b) || y) ≡ true
       by_value true y e = refl
       by_value false y e = ap (λ (z : Bool). z || y) e
 
   -- what stands inside passes if it leads through
-  pub inside-is : (b : ℕ) (i : Instruction) → at < b → b < end → test b i ≡ leads_through first last end b i
+  pub inside-is : (b : ℕ) (i : Instruction) → at < b → b < end → test b i ≡ leads_through nests first last end b i
   inside-is b i after ahead = let x : nat_le b at ≡ false = grind (arith, nat_tests) in let y : nat_le end b ≡ false = grind (arith, nat_tests) in
-      ap₂ (λ (p q : Bool). (p || q) || leads_through first last end b i) x y
+      ap₂ (λ (p q : Bool). (p || q) || leads_through nests first last end b i) x y
 
   all-behind : (b : ℕ) (is : List Instruction) → end ≤ b → all_pass test b is ≡ true
   all-behind b [] high = refl

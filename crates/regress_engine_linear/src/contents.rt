@@ -1,5 +1,5 @@
 //! The test that a way through the contents of lookarounds is as short as they are.
-ghost use Rattle.std.specs.Prelude.{◌≡◌, ◌&&◌, ◌+◌, ◌-◌, ◌^◌, ◌<◌, length, map, nat_le, nat_lt};
+ghost use Rattle.std.specs.Prelude.{◌≡◌, ◌&&◌, suc, ◌+◌, ◌-◌, ◌^◌, ◌<◌, length, map, nat_le, nat_lt};
 ghost use Rattle.regress_engine_insn.specs.Instructions.{Program};
 ghost use Rattle.regress_engine_insn.specs.InsnViews.{instruction};
 ghost use Rattle.regress_engine_memory.specs.Passing.{all_pass};
@@ -22,6 +22,8 @@ struct Passage {
     last: usize,
     /// The address behind them.
     end: usize,
+    /// Whether an atomic group may stand inside.
+    nests: bool,
 }
 
 impl Passage {
@@ -46,10 +48,19 @@ impl Passage {
         self.first <= first && last <= self.last
     }
 
+    /// Whether what is matched by itself lies inside, from an address on up to another, with its groups.
+    fn holds_inside(&self, at: usize, first: usize, last: usize, continuation: usize) -> bool
+        requires { at + 1 < 2 ^ 64 }
+        ensures { result ≡ (nat_lt (suc at) self.now.end && ((nat_lt at continuation && nat_lt continuation self.now.end)
+            && (nat_le self.now.first first && nat_le last self.now.last))) }
+    {
+        at + 1 < self.end && (self.is_on(at, continuation) && self.holds_all(first, last))
+    }
+
     /// Whether an instruction at an address inside is no repetition, leads further and not past the end, and writes groups inside alone.
     fn leads_through(&self, at: usize, insn: &Insn) -> bool
         requires { at + 1 < 2 ^ 64 }
-        ensures { result ≡ leads_through self.now.first self.now.last self.now.end at (instruction insn.now) }
+        ensures { result ≡ leads_through self.now.nests self.now.first self.now.last self.now.end at (instruction insn.now) }
     {
         match insn {
             Insn::Goal | Insn::JustFail => true,
@@ -73,15 +84,24 @@ impl Passage {
                 end_group,
                 continuation,
                 ..
-            }
-            | Insn::Atomic {
+            } => self.holds_inside(
+                at,
+                *start_group as usize,
+                *end_group as usize,
+                *continuation as usize,
+            ),
+            Insn::Atomic {
                 start_group,
                 end_group,
                 continuation,
             } => {
-                at + 1 < self.end
-                    && (self.is_on(at, *continuation as usize)
-                        && self.holds_all(*start_group as usize, *end_group as usize))
+                self.nests
+                    && self.holds_inside(
+                        at,
+                        *start_group as usize,
+                        *end_group as usize,
+                        *continuation as usize,
+                    )
             }
             _ => at + 1 < self.end,
         }
@@ -91,7 +111,7 @@ impl Passage {
     fn lead_through(&self, insns: &[Insn]) -> bool
         requires { self.now.at < length insns.now }
         ensures { (program : Program) → program.instructions ≡ map instruction insns.now
-            → result ≡ all_pass (leads_inside self.now.at self.now.first self.now.last self.now.end) 0 program.instructions }
+            → result ≡ all_pass (leads_inside self.now.nests self.now.at self.now.first self.now.last self.now.end) 0 program.instructions }
     {
         for at in self.at + 1..self.end.min(insns.len()) {
             if !self.leads_through(at, &insns[at]) {
@@ -117,12 +137,12 @@ impl RankTable {
     fn are_loop_free(&self, passage: &Passage, insns: &[Insn]) -> bool
         requires { passage.now.at < length insns.now }
         ensures { (program : Program) → program.instructions ≡ map instruction insns.now
-            → result ≡ are_loop_free (heights_of self.now) program passage.now.at passage.now.first passage.now.last passage.now.end }
+            → result ≡ are_loop_free (heights_of self.now) program passage.now.nests passage.now.at passage.now.first passage.now.last passage.now.end }
     {
         passage.at + 1 < passage.end && self.have_ranks(passage) && passage.lead_through(insns)
     }
 
-    /// Whether what a lookaround at an address leaves is where it stands.
+    /// Whether what a lookaround or an atomic group at an address leaves is as it has to be: its contents have no loop, if they are gone through.
     fn leaves_groups(&self, insns: &[Insn], at: usize, insn: &Insn) -> bool
         requires { at < length insns.now }
         ensures { (program : Program) → program.instructions ≡ map instruction insns.now
@@ -146,14 +166,29 @@ impl RankTable {
                     first: *start_group as usize,
                     last: *end_group as usize,
                     end: *continuation as usize,
+                    nests: true,
                 };
                 passage.last <= passage.first || self.are_loop_free(&passage, insns)
+            }
+            Insn::Atomic {
+                start_group,
+                end_group,
+                continuation,
+            } => {
+                let passage = Passage {
+                    at,
+                    first: *start_group as usize,
+                    last: *end_group as usize,
+                    end: *continuation as usize,
+                    nests: false,
+                };
+                self.are_loop_free(&passage, insns)
             }
             _ => true,
         }
     }
 
-    /// Whether what each lookaround leaves is where it stands.
+    /// Whether what each of them leaves is.
     pub(crate) fn leave_groups(&self, insns: &[Insn]) -> bool
         ensures { (program : Program) → program.instructions ≡ map instruction insns.now
             → result ≡ all_pass (leaves_groups (heights_of self.now) program) 0 program.instructions }

@@ -45,7 +45,6 @@ fn may_stand(insn: &Insn) -> bool
         } => {
             *min_iters <= MOST_REPEATS && (is_unbounded(*max_iters) || *max_iters <= MOST_REPEATS)
         }
-        Insn::Atomic { .. } => false,
         _ => true,
     }
 }

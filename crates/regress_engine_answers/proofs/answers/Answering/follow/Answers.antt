@@ -10,8 +10,8 @@ use Rattle.regress_engine_search.specs.Answering.{IsAnswer}
 use Rattle.regress_engine_search.specs.StateViews.{marks_of}
 use Rattle.regress_engine_linear.specs.LinearViews.{flow_in, heights_in}
 use Rattle.regress_engine_answers.specs.Walked.{Walk, Walks, far, goes, walk_of}
-use Rattle.regress_engine_answers.proofs.WalkLemmas.{may-walk, place-here, rank-low, ready-here, runs-stand, written-fits}
-use Rattle.regress_engine_answers.proofs.Walks.{end-left, walk-begins, walk-ends, walk-exits, walk-goes, walk-way}
+use Rattle.regress_engine_answers.proofs.WalkLemmas.{may-walk, rank-low, runs-stand, written-fits}
+use Rattle.regress_engine_answers.proofs.Walks.{end-left, walk-begins, walk-ends, walk-exits, walk-goes, walk-ready, walk-way}
 use Rattle.regress_engine_answers.proofs.answers.Answering.follow.Goals as goal
 
 pub way-init : goal.way-init
@@ -66,9 +66,8 @@ led-next-requires-clause-ready g c =
     let gs = map marks_of c.way.groups.items in
     let hs = map marks_of c.args.self.now.groups.now in
     let i = instruction c.instruction-insn.result.now in
-    let (w, way) = walk-way flow h v all program c.requires.suits c.args.answers.now may c.args.start walk.frames walk.forward walk.at walk.offset gs c.way.invariant.way in
-    ready-here flow h v all program c.requires.suits c.args.answers.now may (direction_of walk.forward) w walk.at walk.offset gs way hs
-    (length-map c.args.self.now.groups.now marks_of ∙ c.requires.groups) i c.instruction-insn.ensures.stands
+    (walk-ready flow h v all program c.requires.suits c.args.answers.now may c.args.start walk.frames walk.forward walk.at walk.offset gs hs c.way.invariant.way
+    (length-map c.args.self.now.groups.now marks_of ∙ c.requires.groups) i c.instruction-insn.ensures.stands).0
 
 pub led-next-requires-clause-place : goal.led-next-requires-clause-place
 led-next-requires-clause-place g c =
@@ -82,8 +81,8 @@ led-next-requires-clause-place g c =
     let gs = map marks_of c.way.groups.items in
     let hs = map marks_of c.args.self.now.groups.now in
     let i = instruction c.instruction-insn.result.now in
-    let (w, way) = walk-way flow h v all program c.requires.suits c.args.answers.now may c.args.start walk.frames walk.forward walk.at walk.offset gs c.way.invariant.way in
-    place-here flow h v all program c.requires.suits c.args.answers.now may (direction_of walk.forward) w walk.at walk.offset gs way hs i c.instruction-insn.ensures.stands
+    (walk-ready flow h v all program c.requires.suits c.args.answers.now may c.args.start walk.frames walk.forward walk.at walk.offset gs hs c.way.invariant.way
+    (length-map c.args.self.now.groups.now marks_of ∙ c.requires.groups) i c.instruction-insn.ensures.stands).1
 
 pub led-next-requires-clause-exits : goal.led-next-requires-clause-exits
 led-next-requires-clause-exits g c =
@@ -130,7 +129,7 @@ returns-then-not-branch-clause-counted g c =
     let i = instruction c.instruction-insn.result.now in
     let ends : goes i c.led-next.result walk ≡ None = c.in_ok-goes.ensures ∙ ap (λ b. if b then Some (walk_of c.goes.new.self) else None) c.if-not-branch.true in
     let least = end-left flow h v all program c.requires.suits c.args.answers.now may walk.frames walk.forward walk.at walk.offset i c.led-next.result ends in
-    let low = rank-low flow h v all program c.requires.suits c.args.answers.now may Forward 0 may.there in
+    let low = rank-low h may.pass.placed 0 may.there in
     let counted = c.way.invariant.counted in
     let one = c.saturating_add.ensures in
     omega (arith, low, least, counted, one)
