@@ -26,7 +26,8 @@ use Rattle.regress_engine_linear.specs.Ranks.{AreRunning, Inside, IsBeyond, Lowe
 use Rattle.regress_engine_answers.specs.Walked.{IsOnWay, MayPass, contents_end, end_by, is_entered, led, marked, told_if, value_at}
 use Rattle.regress_engine_answers.specs.declared.walker.Station.{Station}
 use Rattle.regress_engine_answers.proofs.Through.{through}
-use Rattle.regress_engine_answers.proofs.WalkLemmas.{at-goal, atomic-ends, ends-way, look-into, on-way, runs-stand, told-here}
+use Rattle.regress_engine_answers.proofs.WalkLemmas.{at-goal, atomic-ends, ends-way, look-into, on-way, told-here}
+use Rattle.regress_engine_linear.proofs.ExitWays.{runs-stand}
 
 -- of a one-character loop the same is worked out whatever the groups are
 pub single-value : (told : ℕ → ℕ → Bool) (program : Program) (input : Input) (dir : Direction) (groups : List Marks) (at o least most : ℕ) (greedy : Bool) (i : Instruction)

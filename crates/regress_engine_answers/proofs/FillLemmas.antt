@@ -2,13 +2,13 @@
 use Rattle.std.specs.Prelude.{slice_get}
 use Rattle.std.specs.List.{AllByRecursion}
 use Rattle.std.proofs.Common.{◌≡◌, ℕ, zero, suc, ◌+◌, ◌-◌, ◌<◌, ◌≤◌, ◌⊎◌, ◌&&◌, ◌||◌, ◌==◌, inl, inr, Bool, true, false, List, [], ◌∷◌, length, Option, None, Some, refl, sym, ap, ap₂, ◌∙◌, subst, arith}
-use Rattle.std.proofs.lemmas.Bool.{cases_eq, eq-eqb, eqb-true}
+use Rattle.std.proofs.lemmas.Bool.{cases_eq}
 use Rattle.std.proofs.lemmas.Option.{slice_get_within}
-use Rattle.regress_meaning.specs.Meaning.{Direction, Forward, Backward}
+use Rattle.regress_meaning.specs.Meaning.{Direction}
 use Rattle.regress_engine_input.specs.Views.{View, AreOfKind, direction_of, input_of, reading_of}
 use Rattle.regress_front_nodes.specs.Trees.{Submatch, lookaround, atomic}
 use Rattle.regress_front_nodes.specs.TreeMeaning.{submatch_direction}
-use Rattle.regress_engine_insn.specs.Instructions.{LoopFields, Instruction, Program, Stands}
+use Rattle.regress_engine_insn.specs.Instructions.{Instruction, Program, Stands}
 use Rattle.regress_engine_insn.specs.Instructions as code
 use Rattle.regress_engine_runs.specs.Closed.{takes_character}
 use Rattle.regress_engine_runs.specs.States.{Marks, Whole}
@@ -35,30 +35,12 @@ use Rattle.regress_engine_answers.specs.declared.answers.Answers.{Answers}
 use Rattle.regress_engine_linear.proofs.AnswerLemmas.{answers-by, look-answers}
 use Rattle.regress_engine_linear.proofs.Beyond.{leads-beyond}
 use Rattle.regress_engine_linear.proofs.ExitAnswers.{exits-told}
-use Rattle.regress_engine_linear.proofs.Formulas.{answers-are, or-none}
+use Rattle.regress_engine_linear.proofs.Formulas.{answers-are}
 use Rattle.regress_engine_linear.proofs.Running.{further-on}
 use Rattle.regress_engine_linear.proofs.Within.{each-lies}
 use Rattle.regress_engine_answers.proofs.Ends.{atomic-answers}
 use Rattle.regress_engine_answers.proofs.WalkLemmas.{may-pass}
-use Rattle.regress_engine_linear.proofs.WorkLemmas.{exits-value-is, reads-there}
-
--- a bit is as it was, but at one address and offset
-pub bit-elsewhere : (at o b q : ℕ) (old value : Bool) → (b ≡ at → q ≡ o → ⊥) → (old || (((b == at) && (o == q)) && value)) ≡ old
-bit-elsewhere at o b q old value other = by_value (b == at) (o == q) refl refl
-  where
-    by_value : (x y : Bool) → (b == at) ≡ x → (o == q) ≡ y → (old || ((x && y) && value)) ≡ old
-    by_value true true e f = absurd (other (eqb-true b at e) (sym (eqb-true o q f)))
-    by_value true false e f = or-none old
-    by_value false y e f = or-none old
-
--- there it is what was worked out
-pub bit-here : (at o : ℕ) (old value : Bool) → old ≡ false → (old || (((at == at) && (o == o)) && value)) ≡ value
-bit-here at o old value fresh =
-    ap (λ b. b || (((at == at) && (o == o)) && value)) fresh ∙ ap₂ (λ x y. (x && y) && value) (eq-eqb at at refl) (eq-eqb o o refl)
-
-pub room-end : (last : ℕ) (d : Direction) (o : ℕ) → o ≤ last → room last d o ≤ last
-room-end last Forward o low = omega arith
-room-end last Backward o low = omega (arith, low)
+use Rattle.regress_engine_linear.proofs.WorkLemmas.{bit-elsewhere, bit-here, room-end, exits-value-is, reads-there}
 
 module _ (flow : Flow) (h : Heights) (v : View) (all : AreOfKind v.kind v.units) (program : Program) (suits : Suits program v) (linear : IsLinear flow h program)
     (short : suc (length v.units) < too_long) where

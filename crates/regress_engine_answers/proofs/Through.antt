@@ -1,5 +1,5 @@
 -- Where instructions inside of contents without loops lead, and what they write.
-use Rattle.std.specs.Prelude.{nat_lt, nat_le, not, slice_set}
+use Rattle.std.specs.Prelude.{nat_lt, nat_le, slice_set}
 use Rattle.std.proofs.Common.{◌≡◌, ℕ, suc, ◌<◌, ◌≤◌, ◌&&◌, Bool, true, false, List, get_or, Option, None, Some, if◌then◌else◌, sym, ◌∙◌, subst, arith, get_or-set_other, length-set}
 use Rattle.std.proofs.lemmas.Bool.{and_parts, leb-true, ltb-true}
 use Rattle.std.proofs.lemmas.Bool.Decides.{nat_tests}

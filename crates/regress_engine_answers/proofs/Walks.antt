@@ -1,18 +1,17 @@
 -- A walk along what is told to have an answer goes on, comes nearer to its end, and has its answer there.
-use Rattle.std.specs.Prelude.{nat_lt, nat_le, not, slice_set}
-use Rattle.std.proofs.Common.{◌≡◌, inl, inr, ℕ, zero, suc, ◌+◌, ◌*◌, ◌<◌, ◌≤◌, ◌&&◌, Bool, true, false, List, [], ◌∷◌, length, get_or, Option, None, Some, if◌then◌else◌, refl, sym, ap, ap₂, ◌∙◌, subst, arith, get_or-set_other, length-set}
-use Rattle.std.proofs.lemmas.Bool.{and_parts, leb-true, le-leb, lt-ltb, ltb-true}
+use Rattle.std.specs.Prelude.{nat_lt, nat_le}
+use Rattle.std.proofs.Common.{◌≡◌, inl, inr, ℕ, suc, ◌+◌, ◌*◌, ◌<◌, ◌≤◌, ◌&&◌, Bool, true, false, List, [], ◌∷◌, length, Option, None, Some, if◌then◌else◌, refl, sym, ap, ◌∙◌, subst, arith}
+use Rattle.std.proofs.lemmas.Bool.{and_parts, ltb-true}
 use Rattle.std.proofs.lemmas.Bool.Decides.{nat_tests}
 use Rattle.std.proofs.lemmas.Nat.{mul-le}
 use Rattle.std.proofs.Math.Nat.{suc-mul}
 use Rattle.regress_meaning.specs.Meaning.{Direction, Forward}
-use Rattle.regress_meaning.specs.Inputs.{Input}
 use Rattle.regress_front_nodes.specs.Trees.{Submatch, lookaround, atomic}
 use Rattle.regress_engine_input.specs.Views.{View, AreOfKind, direction_of, input_of, reading_of}
 use Rattle.regress_engine_insn.specs.Instructions.{Instruction, Program, Stands}
 use Rattle.regress_engine_insn.specs.Instructions as code
-use Rattle.regress_engine_runs.specs.States.{Marks, Whole, begun, ended, first_state, mixed, unset}
-use Rattle.regress_engine_runs.specs.Runs.{advance, room}
+use Rattle.regress_engine_runs.specs.States.{Marks, Whole, first_state, mixed}
+use Rattle.regress_engine_runs.specs.Runs.{room}
 use Rattle.regress_engine_runs.specs.Closed.{takes_character}
 use Rattle.regress_engine_runs.specs.Items.{Answers as EndsIn}
 use Rattle.regress_engine_runs.specs.Meets.{IsAtPlace, reads_character}
@@ -30,7 +29,7 @@ use Rattle.regress_engine_linear.specs.RankTables.{Heights, forward_at, rank_at,
 use Rattle.regress_engine_linear.specs.Answered.{Ends, IsAnswered, ReadsAlong, is_single}
 use Rattle.regress_engine_answers.specs.AnswerTables.{told_by}
 use Rattle.regress_engine_linear.specs.Linear.{AreLoopFree, leads_through, may_stand_inside}
-use Rattle.regress_engine_answers.specs.Walked.{AreExitsTold, IsAhead, IsInside, IsOnWay, MayWalk, Walk, Walks, entered, far, first_of, frame, goes, inside_forward, is_entered, led, marked, offset_behind, returns, station}
+use Rattle.regress_engine_answers.specs.Walked.{AreExitsTold, IsAhead, IsInside, IsOnWay, MayWalk, Walk, Walks, entered, far, frame, goes, inside_forward, is_entered, led, marked, offset_behind, returns, station}
 use Rattle.regress_engine_answers.specs.declared.answers.Answers.{Answers}
 use Rattle.regress_engine_answers.specs.declared.walker.Frame.{Frame}
 use Rattle.regress_engine_answers.specs.declared.walker.Station.{Station}
@@ -38,8 +37,6 @@ use Rattle.regress_engine_linear.proofs.MixedLemmas.{mixed-length, mixed-outside
 use Rattle.regress_engine_linear.proofs.FromStart.{running-first}
 use Rattle.regress_engine_answers.proofs.Through.{kept-on, through}
 use Rattle.regress_engine_answers.proofs.WalkLemmas.{atomic-into, place-here, ready-here, at-goal, ends-way, exits-told-of, look-into, on-way, rank-low, told-there}
-
--- ---- walks
 
 -- what stands inside of contents ends inside, and its groups are inside
 fits-inside : (nests : Bool) (kind : Submatch) (at low high continuation first last end : ℕ) → leads_through nests first last end at (code.submatch kind low high continuation) ≡ true

@@ -8,13 +8,13 @@ use Rattle.regress_engine_insn.specs.Instructions.{LoopFields, Instruction, Prog
 use Rattle.regress_engine_insn.specs.Instructions as code
 use Rattle.regress_engine_runs.specs.Items.{Answers as EndsIn}
 use Rattle.regress_engine_runs.specs.Meets.{IsAtPlace, referred}
-use Rattle.regress_engine_runs.specs.Runs.{Run, advance, after_times, fields_of, one_by_one, room}
+use Rattle.regress_engine_runs.specs.Runs.{Run, advance, fields_of, one_by_one, room}
 use Rattle.regress_engine_runs.specs.States.{Marks, Whole, begun, ended, mixed, unset}
 use Rattle.regress_engine_runs.specs.UndoStack.{whole}
 use Rattle.regress_engine_memory.specs.Flow.{Flow, IsFlow}
 use Rattle.regress_engine_linear.specs.Ranks.{AreRanked, AreRunning, AreUnboundedOrOnce}
 use Rattle.regress_engine_linear.specs.RankTables.{ArePlaced, Heights, forward_at, rank_at, ranking_of}
-use Rattle.regress_engine_linear.specs.Answered.{ReadsAlong, answer_at, one_at}
+use Rattle.regress_engine_linear.specs.Answered.{ReadsAlong, answer_at, exit_at, one_at}
 use Rattle.regress_engine_answers.specs.AnswerTables.{exits_by, told_by}
 use Rattle.regress_engine_linear.specs.Linear.{AreLoopFree, LeavesGroups}
 use Rattle.regress_engine_answers.specs.Filled.{AreRight, IsExitRight}
@@ -70,25 +70,7 @@ module _ (told : ℕ → ℕ → Bool) where
   again_at o begin None = None
   again_at o begin (Some f) = Some (station (if nat_lt 1 f.most then either_of f.greedy o (suc begin) f.exit else f.exit) o)
 
-  -- the first of some offsets that is told of at an address
-  abbrev pub first_at : (at : ℕ) → List ℕ → Option ℕ
-  first_at at [] = None
-  first_at at (o ∷ os) = if told at o then Some o else first_at at os
-
-  -- the last of them, or another where there is none
-  abbrev pub last_at : (at : ℕ) → List ℕ → Option ℕ → Option ℕ
-  last_at at [] found = found
-  last_at at (o ∷ os) found = last_at at os (if told at o then Some o else found)
-
   module _ (program : Program) (input : Input) (dir : Direction) (groups : List Marks) where
-    -- the preferred of the exits of a one-character loop, that goes on at an address, if it has as many characters as it needs
-    abbrev pub exit_at : (least most : ℕ) → (greedy : Bool) → Instruction → (at o : ℕ) → Option ℕ
-    exit_at least most greedy i at o = elim (after_times program input least i dir groups o) [
-      | None ↦ None
-      | Some near ↦ if greedy then last_at at (one_by_one program input (most - least) i dir groups near) None
-          else first_at at (one_by_one program input (most - least) i dir groups near)
-    ]
-
     -- Where the way goes on from an address and an offset, by what is told of those to which the instruction leads; the groups are asked
     -- by no instruction that it comes to.
     abbrev pub led : Instruction → (at o : ℕ) → Option Station
@@ -104,7 +86,7 @@ module _ (told : ℕ → ℕ → Bool) where
     led (code.loop_again begin) at o = again_at o begin (fields_of (slice_get program.instructions begin))
     led (code.single_loop least most greedy) at o = elim (slice_get program.instructions (suc at)) [
       | None ↦ None
-      | Some i ↦ station_at (suc (suc at)) (exit_at least most greedy i (suc (suc at)) o)
+      | Some i ↦ station_at (suc (suc at)) (exit_at told program input dir groups least most greedy i (suc (suc at)) o)
     ]
     led i at o = station_at (suc at) (advance program input i dir groups o)
 

@@ -13,12 +13,12 @@ ghost use Rattle.regress_engine_search.specs.Answering.{IsAnswer};
 ghost use Rattle.regress_engine_search.specs.Ready.{IsBody, IsReady, is_simple};
 ghost use Rattle.regress_engine_search.specs.Search.{Suits};
 ghost use Rattle.regress_engine_search.specs.StateViews.{marks_of};
-ghost use Rattle.regress_engine_linear.specs.Answered.{is_single};
+ghost use Rattle.regress_engine_linear.specs.Answered.{exit_at, first_at, is_single, last_at};
 ghost use Rattle.regress_engine_answers.specs.AnswerTables.{exits_by, told_by};
 ghost use Rattle.regress_engine_answers.specs.Filled.{AreRight};
 ghost use Rattle.regress_engine_linear.specs.Linear.{IsLinear, too_long};
 ghost use Rattle.regress_engine_linear.specs.LinearViews.{flow_in, heights_in};
-ghost use Rattle.regress_engine_answers.specs.Walked.{AreExitsKnown, AreExitsTold, again_at, either_of, exit_at, first_at, first_of, last_at, led, marked, station_at, written_by};
+ghost use Rattle.regress_engine_answers.specs.Walked.{AreExitsKnown, AreExitsTold, again_at, either_of, first_of, led, marked, station_at, written_by};
 
 use crate::answers::{Answering, Answers};
 use crate::walker::{Station, Walker};

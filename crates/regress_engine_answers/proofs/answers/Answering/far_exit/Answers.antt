@@ -9,10 +9,10 @@ use Rattle.regress_engine_runs.proofs.RunViews.{one_stands}
 use Rattle.regress_engine_search.specs.StateViews.{marks_of}
 use Rattle.regress_engine_search.proofs.ReadyLemmas.{body-asked, body-at, body-next}
 use Rattle.regress_engine_answers.specs.AnswerTables.{told_by}
-use Rattle.regress_engine_answers.specs.Walked.{last_at}
+use Rattle.regress_engine_linear.specs.Answered.{last_at}
 use Rattle.regress_engine_search.proofs.SkipLemmas.{place-lies}
-use Rattle.regress_engine_answers.proofs.FillLemmas.{room-end}
-use Rattle.regress_engine_answers.proofs.WalkLemmas.{far-last, far-none, far-on}
+use Rattle.regress_engine_linear.proofs.WorkLemmas.{room-end}
+use Rattle.regress_engine_linear.proofs.ExitWays.{far-last, far-none, far-on}
 use Rattle.regress_engine_answers.proofs.answers.Answering.far_exit.Goals as goal
 
 pub advance-requires-clause-ready : goal.advance-requires-clause-ready

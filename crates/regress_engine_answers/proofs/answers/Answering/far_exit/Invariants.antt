@@ -6,7 +6,7 @@ use Rattle.regress_engine_runs.specs.Runs.{one_by_one}
 use Rattle.regress_engine_runs.specs.Meets.{IsAtPlace}
 use Rattle.regress_engine_search.specs.StateViews.{marks_of}
 use Rattle.regress_engine_answers.specs.AnswerTables.{told_by}
-use Rattle.regress_engine_answers.specs.Walked.{last_at}
+use Rattle.regress_engine_linear.specs.Answered.{last_at}
 use Rattle.regress_engine_answers.proofs.answers.Answering.far_exit.Given as goal
 
 -- what is found from here on is what is found of all

@@ -6,7 +6,7 @@ use Rattle.regress_engine_insn.specs.InsnViews.{instruction}
 use Rattle.regress_engine_search.specs.StateViews.{marks_of}
 use Rattle.regress_engine_search.proofs.ReadyLemmas.{body-asked, body-at, body-next}
 use Rattle.regress_engine_answers.specs.AnswerTables.{told_by}
-use Rattle.regress_engine_answers.proofs.WalkLemmas.{near-here, near-last, near-on}
+use Rattle.regress_engine_linear.proofs.ExitWays.{near-here, near-last, near-on}
 use Rattle.regress_engine_answers.proofs.answers.Answering.near_exit.Goals as goal
 
 pub advance-requires-clause-ready : goal.advance-requires-clause-ready
