@@ -35,7 +35,7 @@ static regress_handle out;
 static char buffer[64];
 static size_t written;
 
-#define SOURCE "(?<word>[a-z]+?|\\w)(?=(\\d))|(?:ab|a|b)*c"
+#define SOURCE "(?<word>[a-z]+?|\\w)(?=(\\d)\\d*)|(?:ab|a|b)*c"
 
 static int32_t make_tables(void) { return regress_tables_small(&out); }
 static int32_t compile(void) { return regress_compile(SOURCE, sizeof SOURCE - 1, "iu", &tables, &out, NULL); }

@@ -173,7 +173,7 @@ class Patterns(unittest.TestCase):
         self.assertTrue(regress.search("a", "a", "dgy"))
 
     def test_linear(self):
-        for source in ("(a|ab)*c", "a{3,9}b", "(?<!a)b", ""):
+        for source in ("(a|ab)*c", "a{3,9}b", "(?<!a)b", "(?=(a)b)a", "(?>a|bc)c", ""):
             self.assertIs(regress.compile(source).linear, True, source)
         other = regress.compile(r"(a)\1")
         self.assertEqual((other.linear, other.linear_steps(10)), (False, None))

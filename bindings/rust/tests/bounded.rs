@@ -43,7 +43,7 @@ fn a_search_answers_the_same_or_errs() {
 
 #[test]
 fn linear_patterns_are_told() {
-    for pattern in ["(a|ab)*c", "a{3,9}b", "(?<!a)b", "", PATTERN] {
+    for pattern in ["(a|ab)*c", "a{3,9}b", "(?<!a)b", "(?=(a)b)a", "(?>a|bc)c", "", PATTERN] {
         assert!(Regex::new(pattern).unwrap().is_linear(), "{pattern}");
     }
     let other = Regex::new(r"(a)\1").unwrap();

@@ -174,3 +174,27 @@ fn a_linear_pattern_is_searched_in_enough_steps(rt: HostRuntime) -> Result<(), F
     assert!(rt; ends(first_linear(&regex, text.as_str())?) == Some((2_001, 2_002)));
     Ok(())
 }
+
+#[test]
+fn a_table_tells_what_groups_took(rt: HostRuntime) -> Result<(), Fail> {
+    let tables = Tables::small(rt.alloc())?;
+    // The first lookahead goes on to the end from each letter, so the search turns to a table. Then a walk writes the groups: through the
+    // second lookahead, the atomic group and the lookbehind.
+    let pattern = "(?:(?=(?:a|d)*b)(?=(a)|(d))a)*(?>(b)|c)(?<=(a)b)";
+    let mut regex = compiled(rt.alloc(), pattern, "", &tables)?;
+    let mut text = "a".repeat(rt.alloc(), 10_000)?;
+    text.push('b')?;
+    assert!(rt; regex.learn_linear());
+    let fewer = regex
+        .linear_steps(text.len())
+        .unwrap_or(0)
+        .saturating_sub(1);
+    assert!(rt; regex.within(fewer).is_match(text.as_str()) == Err(SearchError::TooManySteps));
+    let Some(found) = first_linear(&regex, text.as_str())? else {
+        return Err(Fail::new(format!(in rt.alloc(); "no match")?));
+    };
+    assert!(rt; found.range() == 0..10_001 && found.group(1) == Some(9_999..10_000));
+    assert!(rt; found.group(2).is_none() && found.group(3) == Some(10_000..10_001));
+    assert!(rt; found.group(4) == Some(9_999..10_000));
+    Ok(())
+}

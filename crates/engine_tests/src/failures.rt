@@ -215,6 +215,19 @@ const HOSTILE: &[HostileRow] = &[
         "c\nab",
         Some((40_002, 40_004)),
     ),
+    // Groups inside of lookarounds, and atomic groups.
+    ("(?:(?=(a)|(b))[ab])*c", "", "ab", 1_000, "", None),
+    (
+        "(?:(?=(a)|(b))[ab])*c",
+        "",
+        "ab",
+        1_000,
+        "c",
+        Some((0, 2_001)),
+    ),
+    ("(?:(?<=(a)|^)(?:a|ab))*c", "", "a", 500, "", None),
+    ("(?:(?>a|bc)x)*d", "", "ax", 1_000, "", None),
+    ("(?:(?>a|bc)x)*d", "", "bcx", 1_000, "d", Some((0, 3_001))),
     // Nothing is passed again and again before runs that end at once.
     (r"\d+(?:\.\d+)?%", "", "1", 50_000, "", None),
     ("[a-z]+(?:11|22)z", "", "a", 50_000, "", None),

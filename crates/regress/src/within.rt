@@ -48,10 +48,11 @@ impl Regex {
     /// search `within` them, whatever the text is. It answers `is_linear`; all else of the regex stays as it is. It takes up to 0.6 of the
     /// time that compiling took, and memory that grows as the programs do; where that is refused a pattern isn't known to be linear.
     ///
-    /// A pattern is linear that has no back reference and no atomic group; whose repetitions may go on without end or are of one iteration
-    /// at most, with a least number of 0 or 1, or are of one character and have numbers up to 256; in which what is repeated can't be empty;
-    /// and whose lookarounds hold no groups or are negated, with no lookahead inside a lookbehind. Its program has at most 65,536
-    /// instructions. What has to be repeated more often is written out where it is short, so `(?:ab){2,}` is linear too.
+    /// A pattern is linear that has no back reference; whose repetitions may go on without end or are of one iteration at most, with a least
+    /// number of 0 or 1, or are of one character and have numbers up to 256; in which what is repeated can't be empty; whose lookarounds are
+    /// negated, or have no groups or no quantifiers inside, with no lookahead inside a lookbehind; and whose atomic groups have neither
+    /// quantifiers nor atomic groups inside, and are never all that an iteration takes. Its program has at most 65,536 instructions. What has
+    /// to be repeated more often is written out where it is short, so `(?:ab){2,}` is linear too.
     ///
     /// ```rust
     /// let mut regex = Regex::with_flags(alloc, "(a|ab)*c", Flags::default(), &tables)?;

@@ -1,19 +1,19 @@
 -- How a table of answers is filled: what is worked out of an address and an offset is so, and the rest stays so.
-use Rattle.std.specs.Prelude.{not, slice_get}
+use Rattle.std.specs.Prelude.{slice_get}
 use Rattle.std.specs.List.{AllByRecursion}
-use Rattle.std.proofs.Common.{◌≡◌, ℕ, zero, suc, ◌+◌, ◌-◌, ◌^◌, ◌<◌, ◌≤◌, ◌⊎◌, ◌&&◌, ◌||◌, ◌==◌, inl, inr, Bool, true, false, if◌then◌else◌, List, [], ◌∷◌, length, Option, None, Some, refl, sym, ap, ap₂, ◌∙◌, subst, arith}
-use Rattle.std.proofs.lemmas.Bool.{cases_eq, eq-eqb, eqb-true}
+use Rattle.std.proofs.Common.{◌≡◌, ℕ, zero, suc, ◌+◌, ◌-◌, ◌<◌, ◌≤◌, ◌⊎◌, ◌&&◌, ◌||◌, ◌==◌, inl, inr, Bool, true, false, List, [], ◌∷◌, length, Option, None, Some, refl, sym, ap, ap₂, ◌∙◌, subst, arith}
+use Rattle.std.proofs.lemmas.Bool.{cases_eq}
 use Rattle.std.proofs.lemmas.Option.{slice_get_within}
-use Rattle.regress_meaning.specs.Meaning.{Direction, Forward, Backward}
+use Rattle.regress_meaning.specs.Meaning.{Direction}
 use Rattle.regress_engine_input.specs.Views.{View, AreOfKind, direction_of, input_of, reading_of}
 use Rattle.regress_front_nodes.specs.Trees.{Submatch, lookaround, atomic}
 use Rattle.regress_front_nodes.specs.TreeMeaning.{submatch_direction}
-use Rattle.regress_engine_insn.specs.Instructions.{LoopFields, Instruction, Program, Stands}
+use Rattle.regress_engine_insn.specs.Instructions.{Instruction, Program, Stands}
 use Rattle.regress_engine_insn.specs.Instructions as code
 use Rattle.regress_engine_runs.specs.Closed.{takes_character}
 use Rattle.regress_engine_runs.specs.States.{Marks, Whole}
-use Rattle.regress_engine_runs.specs.Runs.{Run, advance, finds, is_plain, one_by_one, room, successors}
-use Rattle.regress_engine_runs.specs.Meets.{now, referred, reads_character, IsAtPlace, ReadsPlaces}
+use Rattle.regress_engine_runs.specs.Runs.{advance, finds, is_plain, one_by_one, room, successors}
+use Rattle.regress_engine_runs.specs.Meets.{now, referred, reads_character, IsAtPlace}
 use Rattle.regress_engine_runs.specs.UndoStack.{whole}
 use Rattle.regress_engine_runs.proofs.RunViews.{one_stands}
 use Rattle.regress_engine_search.specs.Ready.{IsBody}
@@ -21,41 +21,26 @@ use Rattle.regress_engine_search.specs.Search.{Suits}
 use Rattle.regress_engine_search.proofs.ReadyLemmas.{body-next}
 use Rattle.regress_engine_search.proofs.SkipLemmas.{place-lies}
 use Rattle.regress_engine_memory.specs.Flow.{Flow}
-use Rattle.regress_engine_memory.specs.Needs.{taken_by}
-use Rattle.regress_engine_memory.specs.Under.{IsFurther}
+use Rattle.regress_engine_memory.specs.Under.{IsFurther, IsOnward}
 use Rattle.regress_engine_memory.proofs.Onward.{flows-unreferring, room-less}
 use Rattle.regress_engine_memory.proofs.Taking.{advance-takes, one-takes, taking-unreferring}
 use Rattle.regress_engine_linear.specs.Answered.{AreExitsRight, IsAnswered, answer_at, exits_at, exits_value_at, one_at, one_beyond}
 use Rattle.regress_engine_answers.specs.AnswerTables.{exits_by, told_by}
-use Rattle.regress_engine_answers.specs.Filled.{IsExitRight, IsFilled, IsPast, IsRight, way_of}
+use Rattle.regress_engine_answers.specs.Filled.{IsExitRight, IsFilled, IsPast, IsPlaced, IsRight, way_of}
+use Rattle.regress_engine_answers.specs.Walked.{value_at}
 use Rattle.regress_engine_linear.specs.Linear.{IsDue, IsLinear, too_long}
-use Rattle.regress_engine_linear.specs.Ranks.{Ranking, AreRunning, AreUnboundedOrOnce, Inside, IsBeyond, Ranks}
+use Rattle.regress_engine_linear.specs.Ranks.{Ranking, Lowers, AreUnboundedOrOnce, Inside, IsBeyond}
 use Rattle.regress_engine_linear.specs.RankTables.{Heights, forward_at, rank_at, ranking_of}
 use Rattle.regress_engine_answers.specs.declared.answers.Answers.{Answers}
 use Rattle.regress_engine_linear.proofs.AnswerLemmas.{answers-by, look-answers}
 use Rattle.regress_engine_linear.proofs.Beyond.{leads-beyond}
-use Rattle.regress_engine_answers.proofs.ExitAnswers.{exits-told}
-use Rattle.regress_engine_linear.proofs.Formulas.{answers-are, or-none}
+use Rattle.regress_engine_linear.proofs.ExitAnswers.{exits-told}
+use Rattle.regress_engine_linear.proofs.Formulas.{answers-are}
+use Rattle.regress_engine_linear.proofs.Running.{further-on}
 use Rattle.regress_engine_linear.proofs.Within.{each-lies}
-use Rattle.regress_engine_answers.proofs.WorkLemmas.{exits-value-is, reads-there}
-
--- a bit is as it was, but at one address and offset
-pub bit-elsewhere : (at o b q : ℕ) (old value : Bool) → (b ≡ at → q ≡ o → ⊥) → (old || (((b == at) && (o == q)) && value)) ≡ old
-bit-elsewhere at o b q old value other = by_value (b == at) (o == q) refl refl
-  where
-    by_value : (x y : Bool) → (b == at) ≡ x → (o == q) ≡ y → (old || ((x && y) && value)) ≡ old
-    by_value true true e f = absurd (other (eqb-true b at e) (sym (eqb-true o q f)))
-    by_value true false e f = or-none old
-    by_value false y e f = or-none old
-
--- there it is what was worked out
-pub bit-here : (at o : ℕ) (old value : Bool) → old ≡ false → (old || (((at == at) && (o == o)) && value)) ≡ value
-bit-here at o old value fresh =
-    ap (λ b. b || (((at == at) && (o == o)) && value)) fresh ∙ ap₂ (λ x y. (x && y) && value) (eq-eqb at at refl) (eq-eqb o o refl)
-
-room-end : (last : ℕ) (d : Direction) (o : ℕ) → o ≤ last → room last d o ≤ last
-room-end last Forward o low = omega arith
-room-end last Backward o low = omega (arith, low)
+use Rattle.regress_engine_answers.proofs.Ends.{atomic-answers}
+use Rattle.regress_engine_answers.proofs.WalkLemmas.{may-pass}
+use Rattle.regress_engine_linear.proofs.WorkLemmas.{bit-elsewhere, bit-here, room-end, exits-value-is, reads-there}
 
 module _ (flow : Flow) (h : Heights) (v : View) (all : AreOfKind v.kind v.units) (program : Program) (suits : Suits program v) (linear : IsLinear flow h program)
     (short : suc (length v.units) < too_long) where
@@ -91,6 +76,7 @@ module _ (flow : Flow) (h : Heights) (v : View) (all : AreOfKind v.kind v.units)
     fresh = λ b q way inside unpast. filled.fresh b q way inside (λ past. unpast (past-later forward k o b q past));
     later = filled.later;
     other = filled.other;
+    spots = filled.spots;
   }
     where
       right : (b q : ℕ) → b < length h.ranks → forward_at h b ≡ forward → q ≤ last → IsPast flow h program v forward (suc k) o b q
@@ -136,6 +122,7 @@ module _ (flow : Flow) (h : Heights) (v : View) (all : AreOfKind v.kind v.units)
     fresh = λ b p way inside unpast. filled.fresh b p way inside (λ past. unpast (on b p past));
     later = filled.later;
     other = filled.other;
+    spots = filled.spots;
   }
     where
       back : (b p : ℕ) → b < length h.ranks → p ≤ last → IsPast flow h program v forward 0 q b p → IsPast flow h program v forward (length h.order) o b p
@@ -215,11 +202,57 @@ module _ (flow : Flow) (h : Heights) (v : View) (all : AreOfKind v.kind v.units)
         by_rank (inr (onward, back)) =
             subst (λ d. IsAnswered flow r program v d (suc at) o (told (suc at) o)) turn (filled.other (sym way ∙ onward) (suc at) o inside.within back lies)
 
+    -- what lies further on, or is ranked lower
+    abbrev Past : (b q : ℕ) → Type 0
+    Past b q = IsFurther last dir o q ⊎ ((q ≡ o) × (rank_at h b < rank_at h at))
+
+    past-right : (b q : ℕ) → b < length h.ranks → q ≤ last → direction_of (forward_at h b) ≡ dir → Past b q → IsAnswered flow r program v dir b q (told b q)
+    past-right b q within inside way' beyond = to-right b q within (same-way (forward_at h b) forward way') inside beyond
+      where
+        same-way : (x y : Bool) → direction_of x ≡ direction_of y → x ≡ y
+        same-way true true e = refl
+        same-way true false e = absurd (cc e)
+        same-way false true e = absurd (cc e)
+        same-way false false e = refl
+
+    past-on : (s u : Whole) → Past s.at s.offset → IsBeyond r last dir s u → Past u.at u.offset
+    past-on s u (inl far) (inl further) = inl (further-on last dir o s.offset u.offset far further)
+    past-on s u (inl far) (inr (same, less)) = inl (subst (IsFurther last dir o) (sym same) far)
+    past-on s u (inr (same, less)) (inl further) = inl (subst (λ x. IsFurther last dir x u.offset) same further)
+    past-on s u (inr (same, less)) (inr (same', less')) = inr (same' ∙ same, omega (arith, less, less'))
+
+    -- an atomic group
+    atomic-right : (hs : List Marks) (low high continuation : ℕ) → Stands program at (code.submatch atomic low high continuation)
+        → IsAnswered flow r program v dir at o (value_at told program (input_of v) dir hs (code.submatch atomic low high continuation) at o)
+    atomic-right hs low high continuation here =
+        atomic-answers flow h v all program suits (may-pass flow h program v linear short) dir told Past past-right past-on hs low high continuation at o here
+        (linear.leaves at low high continuation atomic here) lies (inr (refl, by_inside inside.way inside.rank)) (λ q on. by_place q on lower.rank)
+      where
+        both : Lowers r 0 at continuation × Inside r atomic at
+        both = linear.ranked at (code.submatch atomic low high continuation) (calm-there at (code.submatch atomic low high continuation) here) here
+
+        lower : Lowers r 0 at continuation
+        lower = both.0
+
+        inside : Inside r atomic at
+        inside = both.1
+
+        by_inside : direction_of (forward_at h (suc at)) ≡ direction_of (forward_at h at)
+            → ((forward_at h (suc at) ≡ forward_at h at) × (rank_at h (suc at) < rank_at h at)) ⊎ ((forward_at h at ≡ true) × (forward_at h (suc at) ≡ false)) → rank_at h (suc at) < rank_at h at
+        by_inside turn (inl (same, less)) = less
+        by_inside turn (inr (onward, back)) =
+            let never : direction_of false ≡ direction_of true = sym (ap direction_of back) ∙ turn ∙ ap direction_of onward in absurd (cc never)
+
+        by_place : (q : ℕ) → IsOnward last dir o q → (1 ≤ 0) ⊎ (rank_at h continuation < rank_at h at) → Past continuation q
+        by_place q on (inl never) = absurd (omega (arith, never))
+        by_place q (inl same) (inr less) = inr (same, less)
+        by_place q (inr further) (inr less) = inl further
+
     -- What is worked out is so.
-    pub value-right : (i : Instruction) → Stands program at i → (reads_character i ≡ true → IsAtPlace (reading_of v) o)
-        → IsAnswered flow r program v dir at o (answer_at told program (input_of v) dir i at o)
-    value-right code.goal here reads = λ loops groups running along. (1, Some (whole at o loops groups), finds here, refl)
-    value-right (code.submatch (lookaround negated backward) low high continuation) here reads =
+    pub value-right : (hs : List Marks) (i : Instruction) → Stands program at i → (reads_character i ≡ true → IsAtPlace (reading_of v) o)
+        → IsAnswered flow r program v dir at o (value_at told program (input_of v) dir hs i at o)
+    value-right hs code.goal here reads = λ loops groups running along. (1, Some (whole at o loops groups), finds here, refl)
+    value-right hs (code.submatch (lookaround negated backward) low high continuation) here reads =
         let (lower, inside) = linear.ranked at (code.submatch (lookaround negated backward) low high continuation) (calm-there at (code.submatch (lookaround negated backward) low high continuation) here) here in
         look-answers flow r v all program suits linear.flows linear.ranked dir negated backward low high continuation at o (told (suc at) o) (told continuation o) here
         (inside-right (lookaround negated backward) inside) (to-right continuation o lower.within (lower.way ∙ way) lies (inr (refl, by_rank lower.rank)))
@@ -227,8 +260,8 @@ module _ (flow : Flow) (h : Heights) (v : View) (all : AreOfKind v.kind v.units)
         by_rank : (1 ≤ 0) ⊎ (rank_at h continuation < rank_at h at) → rank_at h continuation < rank_at h at
         by_rank (inl never) = absurd (omega (arith, never))
         by_rank (inr less) = less
-    value-right (code.submatch atomic low high continuation) here reads = absurd (linear.leaves at low high continuation atomic here)
-    value-right i here reads = plain-right i here refl reads
+    value-right hs (code.submatch atomic low high continuation) here reads = atomic-right hs low high continuation here
+    value-right hs i here reads = plain-right i here refl reads
 
     -- what is told of the exits of a one-character loop
     module _ (least most : ℕ) (greedy : Bool) (i : Instruction) (here : Stands program at (code.single_loop least most greedy)) (there : Stands program (suc at) i)
@@ -328,11 +361,11 @@ module _ (flow : Flow) (h : Heights) (v : View) (all : AreOfKind v.kind v.units)
       )
 
       -- So it is filled further.
-      pub filled-on : IsAnswered flow r program v dir at o value
+      pub filled-on : IsAnswered flow r program v dir at o value → ((i : Instruction) × Stands program at i × (reads_character i ≡ true → IsAtPlace (reading_of v) o))
           → ((least most : ℕ) (greedy : Bool) (i : Instruction) → Stands program at (code.single_loop least most greedy) → Stands program (suc at) i → IsAtPlace (reading_of v) o
           → exit ≡ one_beyond told program v dir at i o)
           → IsFilled flow h program v a' forward (suc k) o
-      filled-on is exits = record {
+      filled-on is spot exits = record {
         right = λ b q within' way' inside past. right b q within' way' inside past;
         fresh = λ b q way' inside unpast.
             let other : b ≡ at → q ≡ o → ⊥ = λ e f. unpast (inr (f, let same = ap (rank_at h) e in omega (arith, same, rank))) in
@@ -346,8 +379,19 @@ module _ (flow : Flow) (h : Heights) (v : View) (all : AreOfKind v.kind v.units)
         other = λ onward b q within' back inside.
             let different : b ≡ at → q ≡ o → ⊥ = λ e f. let x : true ≡ false = sym onward ∙ sym way ∙ sym (ap (forward_at h) e) ∙ back in absurd (cc x) in
             subst (λ x. IsAnswered flow r program v (way_of flow h program v b) b q x) (sym (told-same b q different)) (filled.other onward b q within' back inside);
+        spots = spots;
       }
         where
+          spots : IsPlaced program v a'
+          spots b q told-now = elim (cases_eq b at) [
+            | inr other ↦ filled.spots b q (sym (told-same b q (λ e f. other e)) ∙ told-now)
+            | inl e ↦ elim (cases_eq q o) [
+              | inr other ↦ filled.spots b q (sym (told-same b q (λ e' f. other f)) ∙ told-now)
+              | inl f ↦ subst (λ x. (i : Instruction) × Stands program x i × (reads_character i ≡ true → IsAtPlace (reading_of v) q)) (sym e)
+                  (subst (λ x. (i : Instruction) × Stands program at i × (reads_character i ≡ true → IsAtPlace (reading_of v) x)) (sym f) spot)
+            ]
+          ]
+
           later : (b q : ℕ) → IsPast flow h program v forward k o b q → IsPast flow h program v forward (suc k) o b q
           later b q (inl less) = inl less
           later b q (inr (same, less)) = inr (same, omega (arith, less))
@@ -382,13 +426,13 @@ module _ (flow : Flow) (h : Heights) (v : View) (all : AreOfKind v.kind v.units)
                   below x y less other = elim (cases_eq x y) [ inl e ↦ absurd (other e) | inr e ↦ omega (arith, less, e) ]
 
     -- So it is where an address is worked out by the instruction that stands there.
-    pub worked : (within : at < length h.ranks) → ((b : ℕ) → b < length h.ranks → rank_at h b ≡ k → b ≡ at) → (i : Instruction) → Stands program at i
+    pub worked : (hs : List Marks) (within : at < length h.ranks) → ((b : ℕ) → b < length h.ranks → rank_at h b ≡ k → b ≡ at) → (i : Instruction) → Stands program at i
         → (reads_character i ≡ true → IsAtPlace (reading_of v) o) → (a' : Answers)
-        → ((b q : ℕ) → told_by a' b q ≡ (told_by a b q || (((b == at) && (o == q)) && answer_at told program (input_of v) dir i at o)))
+        → ((b q : ℕ) → told_by a' b q ≡ (told_by a b q || (((b == at) && (o == q)) && value_at told program (input_of v) dir hs i at o)))
         → ((b q : ℕ) → exits_by a' b q ≡ (exits_by a b q || (((b == at) && (o == q)) && exits_value_at told (exits_by a) program (input_of v) dir i at o)))
         → IsFilled flow h program v a' forward (suc k) o
-    worked within alone i here reads a' told-is exits-are =
-        filled-on within alone a' (answer_at told program (input_of v) dir i at o) (exits_value_at told (exits_by a) program (input_of v) dir i at o) told-is exits-are (value-right i here reads)
+    worked hs within alone i here reads a' told-is exits-are =
+        filled-on within alone a' (value_at told program (input_of v) dir hs i at o) (exits_value_at told (exits_by a) program (input_of v) dir i at o) told-is exits-are (value-right hs i here reads) (i, here, reads)
         (λ least most greedy body single there place.
         let one : suc at ≡ at + 1 = omega arith in
         exits-value-is v program suits at least most greedy single told (exits_by a) dir o body (subst (λ b. Stands program b body) one there) i here

@@ -61,6 +61,7 @@ module _ (flow : Flow) (h : Heights) (v : View) (all : AreOfKind v.kind v.units)
       fresh = λ at q way inside unpast. (none at q, none-behind at q);
       later = λ back at q way. (none at q, none-behind at q);
       other = λ onward. absurd (cc onward);
+      spots = λ at q is. let never : true ≡ false = sym is ∙ none at q in absurd (cc never);
     }
       where
         never : (at q : ℕ) → IsPast flow h program v false 0 0 at q → ⊥
@@ -74,6 +75,7 @@ module _ (flow : Flow) (h : Heights) (v : View) (all : AreOfKind v.kind v.units)
       fresh = λ at q way inside unpast. filled.later refl at q way;
       later = λ back. absurd (cc back);
       other = λ onward at q within back inside. (all-right flow h v all program suits linear short a false last (omega arith) refl filled at q within back inside).0;
+      spots = filled.spots;
     }
       where
         never : (at q : ℕ) → q ≤ last → IsPast flow h program v true 0 (last - 0) at q → ⊥

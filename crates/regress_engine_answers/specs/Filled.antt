@@ -1,16 +1,20 @@
 -- What a table of answers tells while it is filled: offset by offset, and at each offset by rank.
-use Rattle.std.specs.Prelude.{◌≡◌, ℕ, suc, ◌-◌, ◌<◌, ◌≤◌, ◌⊎◌, Bool, true, false, length, if◌then◌else◌}
+use Rattle.std.specs.Prelude.{◌≡◌, ℕ, suc, ◌<◌, ◌≤◌, ◌⊎◌, Bool, true, false, length}
 use Rattle.regress_meaning.specs.Meaning.{Direction}
 use Rattle.regress_engine_input.specs.Views.{View, direction_of, reading_of}
 use Rattle.regress_engine_insn.specs.Instructions.{Instruction, Program, Stands}
 use Rattle.regress_engine_insn.specs.Instructions as code
-use Rattle.regress_engine_runs.specs.Meets.{IsAtPlace}
+use Rattle.regress_engine_runs.specs.Meets.{IsAtPlace, reads_character}
 use Rattle.regress_engine_runs.specs.Runs.{room}
 use Rattle.regress_engine_memory.specs.Flow.{Flow}
 use Rattle.regress_engine_linear.specs.Answered.{IsAnswered, one_beyond}
 use Rattle.regress_engine_answers.specs.AnswerTables.{exits_by, told_by}
 use Rattle.regress_engine_linear.specs.RankTables.{Heights, forward_at, rank_at, ranking_of}
 use Rattle.regress_engine_answers.specs.declared.answers.Answers.{Answers}
+
+-- Of what reads characters a table tells at places alone.
+abbrev pub IsPlaced : Program → View → Answers → Type 0
+IsPlaced program v a = (at o : ℕ) → told_by a at o ≡ true → (i : Instruction) × Stands program at i × (reads_character i ≡ true → IsAtPlace (reading_of v) o)
 
 module _ (flow : Flow) (h : Heights) (program : Program) (v : View) where
   -- how an address is read
@@ -36,6 +40,7 @@ module _ (flow : Flow) (h : Heights) (program : Program) (v : View) where
     pub fresh : (at q : ℕ) → forward_at h at ≡ forward → q ≤ length v.units → (IsPast forward k o at q → ⊥) → (told_by a at q ≡ false) × (exits_by a at q ≡ false)
     pub later : forward ≡ false → (at q : ℕ) → forward_at h at ≡ true → (told_by a at q ≡ false) × (exits_by a at q ≡ false)
     pub other : forward ≡ true → (at q : ℕ) → at < length h.ranks → forward_at h at ≡ false → q ≤ length v.units → IsRight a at q
+    pub spots : IsPlaced program v a
 
   -- all that a table tells is so
   abbrev pub AreRight : Answers → Type 0

@@ -5,6 +5,7 @@ mod answers;
 mod filling;
 mod places;
 mod searching;
+mod walker;
 mod walking;
 
 pub use answers::{Answering, Answers};

@@ -2,7 +2,7 @@
 ghost use Rattle.std.specs.Prelude.{◌≡◌, ◌+◌, ◌*◌, ◌-◌, ◌^◌, ◌<◌, ◌≤◌, if◌then◌else◌, ℕ, suc, [], ◌∷◌, false, true, None, Some, IfOk, OnOk, get_or, length, map, replicate, slice_get, slice_set};
 ghost use Rattle.regress_meaning.specs.Meaning.{Forward};
 ghost use Rattle.regress_engine_code.specs.Standing.{program_of};
-ghost use Rattle.regress_engine_input.specs.Views.{input_of, reading_of};
+ghost use Rattle.regress_engine_input.specs.Views.{direction_of, input_of, reading_of};
 ghost use Rattle.regress_engine_insn.specs.InsnViews.{instruction};
 ghost use Rattle.regress_engine_insn.specs.Instructions.{Instruction, Stands};
 ghost use Rattle.regress_engine_runs.specs.Meets.{IsAtPlace, reads_character};
@@ -13,29 +13,21 @@ ghost use Rattle.regress_engine_search.specs.Answering.{IsAnswer};
 ghost use Rattle.regress_engine_search.specs.Ready.{IsBody, IsReady, is_simple};
 ghost use Rattle.regress_engine_search.specs.Search.{Suits};
 ghost use Rattle.regress_engine_search.specs.StateViews.{marks_of};
-ghost use Rattle.regress_engine_linear.specs.Answered.{is_single};
+ghost use Rattle.regress_engine_linear.specs.Answered.{exit_at, first_at, is_single, last_at};
 ghost use Rattle.regress_engine_answers.specs.AnswerTables.{exits_by, told_by};
 ghost use Rattle.regress_engine_answers.specs.Filled.{AreRight};
 ghost use Rattle.regress_engine_linear.specs.Linear.{IsLinear, too_long};
 ghost use Rattle.regress_engine_linear.specs.LinearViews.{flow_in, heights_in};
-ghost use Rattle.regress_engine_answers.specs.Walked.{AreExitsKnown, AreExitsTold, again_at, either_of, exit_at, first_at, first_of, last_at, led, marked, station_at, written_by};
+ghost use Rattle.regress_engine_answers.specs.Walked.{AreExitsKnown, AreExitsTold, again_at, either_of, first_of, led, marked, station_at, written_by};
 
 use crate::answers::{Answering, Answers};
+use crate::walker::{Station, Walker};
 use regress_engine_advance::{advance, after_times};
 use regress_engine_insn::Insn;
 use regress_engine_linear::LinearTable;
 use regress_engine_search::ExecutorInput;
 use regress_front_core::GroupData;
 use std::alloc::AllocError;
-
-/// An address, and an offset.
-#[derive(Debug, Clone, Copy)]
-pub(crate) struct Station {
-    /// The address.
-    pub(crate) at: usize,
-    /// The offset.
-    pub(crate) offset: usize,
-}
 
 /// An address with an offset, if there is one.
 fn station_at(at: usize, offset: Option<usize>) -> Option<Station>
@@ -71,46 +63,50 @@ fn write(groups: &mut Vec<GroupData<usize>>, group: usize, marks: GroupData<usiz
     groups[group] = marks;
 }
 
-/// Marks with where a group begins.
-fn begun(marks: GroupData<usize>, offset: usize) -> GroupData<usize>
-    ensures { marks_of result ≡ begun Forward offset (marks_of marks) }
+/// Marks with where a group begins that is read forward, or backward.
+fn begun(marks: GroupData<usize>, forward: bool, offset: usize) -> GroupData<usize>
+    ensures { marks_of result ≡ begun (direction_of forward) offset (marks_of marks) }
 {
-    GroupData {
-        start: Some(offset),
-        ..marks
+    if forward {
+        GroupData {
+            start: Some(offset),
+            ..marks
+        }
+    } else {
+        GroupData {
+            end: Some(offset),
+            ..marks
+        }
     }
 }
 
-/// Marks with where a group ends.
-fn ended(marks: GroupData<usize>, offset: usize) -> GroupData<usize>
-    ensures { marks_of result ≡ ended Forward offset (marks_of marks) }
+/// Marks with where a group ends that is read forward, or backward.
+fn ended(marks: GroupData<usize>, forward: bool, offset: usize) -> GroupData<usize>
+    ensures { marks_of result ≡ ended (direction_of forward) offset (marks_of marks) }
 {
-    GroupData {
-        end: Some(offset),
-        ..marks
-    }
+    begun(marks, !forward, offset)
 }
 
 /// Writes that a group begins at an offset.
-fn begin(groups: &mut Vec<GroupData<usize>>, group: usize, offset: usize)
+fn begin(groups: &mut Vec<GroupData<usize>>, group: usize, forward: bool, offset: usize)
     requires { group < length groups.old.items }
     ensures count { length groups.new.items ≡ length groups.old.items }
     ensures marks { map marks_of groups.new.items
-        ≡ slice_set (map marks_of groups.old.items) group (begun Forward offset (get_or (map marks_of groups.old.items) group unset)) }
+        ≡ slice_set (map marks_of groups.old.items) group (begun (direction_of forward) offset (get_or (map marks_of groups.old.items) group unset)) }
 {
     let marks = marks_at(groups, group);
-    write(groups, group, begun(marks, offset));
+    write(groups, group, begun(marks, forward, offset));
 }
 
 /// Writes that a group ends at an offset.
-fn end(groups: &mut Vec<GroupData<usize>>, group: usize, offset: usize)
+fn end(groups: &mut Vec<GroupData<usize>>, group: usize, forward: bool, offset: usize)
     requires { group < length groups.old.items }
     ensures count { length groups.new.items ≡ length groups.old.items }
     ensures marks { map marks_of groups.new.items
-        ≡ slice_set (map marks_of groups.old.items) group (ended Forward offset (get_or (map marks_of groups.old.items) group unset)) }
+        ≡ slice_set (map marks_of groups.old.items) group (ended (direction_of forward) offset (get_or (map marks_of groups.old.items) group unset)) }
 {
     let marks = marks_at(groups, group);
-    write(groups, group, ended(marks, offset));
+    write(groups, group, ended(marks, forward, offset));
 }
 
 /// Writes that a group has taken nothing.
@@ -123,14 +119,14 @@ fn forget(groups: &mut Vec<GroupData<usize>>, group: usize)
 }
 
 /// Writes what an instruction says of groups at an offset, if it does. Asks that the group is there that it names.
-fn mark(insn: &Insn, offset: usize, groups: &mut Vec<GroupData<usize>>)
+fn mark(insn: &Insn, forward: bool, offset: usize, groups: &mut Vec<GroupData<usize>>)
     requires { (k : ℕ) → written_by (instruction insn.now) ≡ Some k → k < length groups.old.items }
     ensures count { length groups.new.items ≡ length groups.old.items }
-    ensures marks { map marks_of groups.new.items ≡ marked Forward (instruction insn.now) offset (map marks_of groups.old.items) }
+    ensures marks { map marks_of groups.new.items ≡ marked (direction_of forward) (instruction insn.now) offset (map marks_of groups.old.items) }
 {
     match insn {
-        Insn::BeginCaptureGroup(group) => begin(groups, *group as usize, offset),
-        Insn::EndCaptureGroup(group) => end(groups, *group as usize, offset),
+        Insn::BeginCaptureGroup(group) => begin(groups, *group as usize, forward, offset),
+        Insn::EndCaptureGroup(group) => end(groups, *group as usize, forward, offset),
         Insn::ResetCaptureGroup(group) => forget(groups, *group as usize),
         _ => {}
     }
@@ -205,6 +201,7 @@ impl<'a, Input: ExecutorInput> Answering<'a, Input> {
         answers: &Answers,
         body: &Insn,
         left: usize,
+        forward: bool,
         at: usize,
         near: usize,
     ) -> Option<usize>
@@ -213,7 +210,7 @@ impl<'a, Input: ExecutorInput> Answering<'a, Input> {
         requires stands { Stands (program_of self.now.program.now) (at - 1) (instruction body.now) }
         requires body { IsBody (program_of self.now.program.now) (Input.view self.now.input) at near }
         ensures { result ≡ first_at (told_by answers.now) at (one_by_one (program_of self.now.program.now) (input_of (Input.view self.now.input)) left
-            (instruction body.now) Forward (map marks_of self.now.groups.now) near) }
+            (instruction body.now) (direction_of forward) (map marks_of self.now.groups.now) near) }
     {
         let mut behind = near;
         let mut rest = left;
@@ -224,8 +221,14 @@ impl<'a, Input: ExecutorInput> Answering<'a, Input> {
             if rest == 0 {
                 return None;
             }
-            let Some(next) = advance(self.program, &self.input, body, true, self.groups, behind)
-            else {
+            let Some(next) = advance(
+                self.program,
+                &self.input,
+                body,
+                forward,
+                self.groups,
+                behind,
+            ) else {
                 return None;
             };
             behind = next;
@@ -239,6 +242,7 @@ impl<'a, Input: ExecutorInput> Answering<'a, Input> {
         answers: &Answers,
         body: &Insn,
         left: usize,
+        forward: bool,
         from: usize,
         at: usize,
         near: usize,
@@ -246,11 +250,11 @@ impl<'a, Input: ExecutorInput> Answering<'a, Input> {
         requires suits { Suits (program_of self.now.program.now) (Input.view self.now.input) }
         requires groups { length self.now.groups.now ≡ (program_of self.now.program.now).groups }
         requires stands { Stands (program_of self.now.program.now) (at - 1) (instruction body.now) }
-        requires exits { AreExitsTold (program_of self.now.program.now) (Input.view self.now.input) (map marks_of self.now.groups.now)
+        requires exits { AreExitsTold (program_of self.now.program.now) (Input.view self.now.input) (direction_of forward) (map marks_of self.now.groups.now)
             answers.now (instruction body.now) from at }
         requires body { IsBody (program_of self.now.program.now) (Input.view self.now.input) at near }
         ensures { result ≡ last_at (told_by answers.now) at (one_by_one (program_of self.now.program.now) (input_of (Input.view self.now.input)) left
-            (instruction body.now) Forward (map marks_of self.now.groups.now) near) None }
+            (instruction body.now) (direction_of forward) (map marks_of self.now.groups.now) near) None }
     {
         let mut found: Option<usize> = None;
         let mut behind = near;
@@ -264,8 +268,14 @@ impl<'a, Input: ExecutorInput> Answering<'a, Input> {
             if !answers.has_exit(from, behind) {
                 return found;
             }
-            let Some(next) = advance(self.program, &self.input, body, true, self.groups, behind)
-            else {
+            let Some(next) = advance(
+                self.program,
+                &self.input,
+                body,
+                forward,
+                self.groups,
+                behind,
+            ) else {
                 return found;
             };
             behind = next;
@@ -281,6 +291,7 @@ impl<'a, Input: ExecutorInput> Answering<'a, Input> {
         least: usize,
         most: usize,
         greedy: bool,
+        forward: bool,
         from: usize,
         at: usize,
         offset: usize,
@@ -289,10 +300,10 @@ impl<'a, Input: ExecutorInput> Answering<'a, Input> {
         requires groups { length self.now.groups.now ≡ (program_of self.now.program.now).groups }
         requires stands { Stands (program_of self.now.program.now) (at - 1) (instruction body.now) }
         requires body { IsBody (program_of self.now.program.now) (Input.view self.now.input) at offset }
-        requires exits { AreExitsTold (program_of self.now.program.now) (Input.view self.now.input) (map marks_of self.now.groups.now)
+        requires exits { AreExitsTold (program_of self.now.program.now) (Input.view self.now.input) (direction_of forward) (map marks_of self.now.groups.now)
             answers.now (instruction body.now) from at }
         requires order { least ≤ most }
-        ensures { result ≡ exit_at (told_by answers.now) (program_of self.now.program.now) (input_of (Input.view self.now.input)) Forward
+        ensures { result ≡ exit_at (told_by answers.now) (program_of self.now.program.now) (input_of (Input.view self.now.input)) (direction_of forward)
             (map marks_of self.now.groups.now) least most greedy (instruction body.now) at offset }
     {
         let Some(near) = after_times(
@@ -300,27 +311,34 @@ impl<'a, Input: ExecutorInput> Answering<'a, Input> {
             &self.input,
             body,
             least,
-            true,
+            forward,
             self.groups,
             offset,
         ) else {
             return None;
         };
         if greedy {
-            self.far_exit(answers, body, most - least, from, at, near)
+            self.far_exit(answers, body, most - least, forward, from, at, near)
         } else {
-            self.near_exit(answers, body, most - least, at, near)
+            self.near_exit(answers, body, most - least, forward, at, near)
         }
     }
 
     /// Where the way goes on from an address and an offset, by an instruction that is no one-character loop.
-    fn led_on(&self, answers: &Answers, insn: &Insn, at: usize, offset: usize) -> Option<Station>
+    pub(crate) fn led_on(
+        &self,
+        answers: &Answers,
+        insn: &Insn,
+        forward: bool,
+        at: usize,
+        offset: usize,
+    ) -> Option<Station>
         requires suits { Suits (program_of self.now.program.now) (Input.view self.now.input) }
         requires ready { is_simple (instruction insn.now) ≡ true → IsReady (program_of self.now.program.now) (Input.view self.now.input) (instruction insn.now)
             (map marks_of self.now.groups.now) offset }
         requires room { at + 1 < 2 ^ 64 }
         requires plain { is_single (instruction insn.now) ≡ false }
-        ensures { result ≡ led (told_by answers.now) (program_of self.now.program.now) (input_of (Input.view self.now.input)) Forward
+        ensures { result ≡ led (told_by answers.now) (program_of self.now.program.now) (input_of (Input.view self.now.input)) (direction_of forward)
             (map marks_of self.now.groups.now) (instruction insn.now) at offset }
     {
         match insn {
@@ -353,14 +371,28 @@ impl<'a, Input: ExecutorInput> Answering<'a, Input> {
             }
             Insn::LoopAgain { begin } => self.again_at(answers, *begin as usize, offset),
             _ => {
-                let next = advance(self.program, &self.input, insn, true, self.groups, offset);
+                let next = advance(
+                    self.program,
+                    &self.input,
+                    insn,
+                    forward,
+                    self.groups,
+                    offset,
+                );
                 station_at(at + 1, next)
             }
         }
     }
 
     /// Where the way goes on from an address and an offset, by the instruction that stands there.
-    fn led(&self, answers: &Answers, insn: &Insn, at: usize, offset: usize) -> Option<Station>
+    fn led(
+        &self,
+        answers: &Answers,
+        insn: &Insn,
+        forward: bool,
+        at: usize,
+        offset: usize,
+    ) -> Option<Station>
         requires suits { Suits (program_of self.now.program.now) (Input.view self.now.input) }
         requires groups { length self.now.groups.now ≡ (program_of self.now.program.now).groups }
         requires stands { Stands (program_of self.now.program.now) at (instruction insn.now) }
@@ -369,8 +401,8 @@ impl<'a, Input: ExecutorInput> Answering<'a, Input> {
         requires place { reads_character (instruction insn.now) ≡ true → IsAtPlace (reading_of (Input.view self.now.input)) offset }
         requires room { at + 1 < 2 ^ 64 }
         requires exits { (i : Instruction) → is_single (instruction insn.now) ≡ true → Stands (program_of self.now.program.now) (at + 1) i
-            → AreExitsTold (program_of self.now.program.now) (Input.view self.now.input) (map marks_of self.now.groups.now) answers.now i at (at + 2) }
-        ensures { result ≡ led (told_by answers.now) (program_of self.now.program.now) (input_of (Input.view self.now.input)) Forward
+            → AreExitsTold (program_of self.now.program.now) (Input.view self.now.input) (direction_of forward) (map marks_of self.now.groups.now) answers.now i at (at + 2) }
+        ensures { result ≡ led (told_by answers.now) (program_of self.now.program.now) (input_of (Input.view self.now.input)) (direction_of forward)
             (map marks_of self.now.groups.now) (instruction insn.now) at offset }
     {
         match insn {
@@ -386,13 +418,14 @@ impl<'a, Input: ExecutorInput> Answering<'a, Input> {
                     *min_iters,
                     *max_iters,
                     *greedy,
+                    forward,
                     at,
                     at + 2,
                     offset,
                 );
                 station_at(at + 2, exit)
             }
-            _ => self.led_on(answers, insn, at, offset),
+            _ => self.led_on(answers, insn, forward, at, offset),
         }
     }
 
@@ -424,18 +457,16 @@ impl<'a, Input: ExecutorInput> Answering<'a, Input> {
             ≤ steps.old + room (length (Input.view self.now.input).units) Forward start * length (heights_in table.now).order + length (heights_in table.now).order) }
     {
         reset(groups, self.groups.len())?;
-        let mut here = Station {
-            at: 0,
-            offset: start,
-        };
+        let mut walker = Walker::new(*groups.allocator(), start);
         'way: loop {
+            let here = walker.here;
             let insn = self.instruction(here.at);
             *steps = steps.saturating_add(1);
-            mark(insn, here.offset, groups);
-            let Some(next) = self.led(answers, insn, here.at, here.offset) else {
+            mark(insn, walker.forward, here.offset, groups);
+            let next = self.led(answers, insn, walker.forward, here.at, here.offset);
+            if !walker.goes(insn, next)? {
                 return Ok(here.offset);
-            };
-            here = next;
+            }
         }
     }
 }

@@ -24,7 +24,7 @@ use Rattle.regress_engine_search.specs.Search.{IsSearchable}
 use Rattle.regress_engine_memory.specs.Flow.{Flow, Hands, Writes, IsToldOf, BeginsAnew, Flows}
 use Rattle.regress_engine_linear.specs.Ranks.{Ranking, Lowers, Inside, IsCycle, Ranks}
 use Rattle.regress_engine_linear.specs.RankTables.{Heights, ranking_of}
-use Rattle.regress_engine_linear.specs.Linear.{IsLinear, IsUnboundedOrOnce, LeavesGroups, AreFew, few, too_long}
+use Rattle.regress_engine_linear.specs.Linear.{AreLoopFree, IsLinear, IsUnboundedOrOnce, LeavesGroups, AreFew, few, leads_through, too_long}
 use Rattle.regress_engine_linear.specs.LinearViews.{flow_in, heights_in}
 use Rattle.regress_engine_linear.specs.Answered.{Ends}
 use Rattle.regress_engine_linear.specs.declared.testing.LinearTable.{LinearTable}
@@ -233,10 +233,19 @@ bounded-anyway f t = by_order (cases_lt f.most too_long)
     by_order (inr all) = inl all
     by_order (inl low) = inr (∥∥₁_elim t (nat-set f.most 1) (λ x. elim x [ inl all ↦ absurd (omega (arith, low, all)) | inr once ↦ once ]))
 
-leaves-anyway : (kind : Submatch) (first last : ℕ) → ∥ LeavesGroups kind first last ∥₁ → LeavesGroups kind first last
-leaves-anyway (lookaround true backward) first last t = tt
-leaves-anyway (lookaround false backward) first last t = ∥∥₁_elim t le_prop (λ x. x)
-leaves-anyway atomic first last t = ∥∥₁_elim t never-prop (λ x. x)
+free-anyway : (h : Heights) (program : Program) (nests : Bool) (at first last continuation : ℕ) → ∥ AreLoopFree h program nests at first last continuation ∥₁
+    → AreLoopFree h program nests at first last continuation
+free-anyway h program nests at first last continuation t = record {
+  some = ∥∥₁_elim t le_prop (λ x. x.some);
+  leads = λ b i after ahead here. ∥∥₁_elim t (bool-set (leads_through nests first last continuation b i) true) (λ x. x.leads b i after ahead here);
+  ranks = ∥∥₁_elim t le_prop (λ x. x.ranks);
+}
+
+leaves-anyway : (h : Heights) (program : Program) (at : ℕ) (kind : Submatch) (first last continuation : ℕ) → ∥ LeavesGroups h program at kind first last continuation ∥₁
+    → LeavesGroups h program at kind first last continuation
+leaves-anyway h program at (lookaround true backward) first last continuation t = tt
+leaves-anyway h program at (lookaround false backward) first last continuation t = λ some. free-anyway h program true at first last continuation (∥∥₁_map t (λ x. x some))
+leaves-anyway h program at atomic first last continuation t = free-anyway h program false at first last continuation t
 
 linear-anyway : (flow : Flow) (h : Heights) (program : Program) → ∥ IsLinear flow h program ∥₁ → IsLinear flow h program
 linear-anyway flow h program t = record {
@@ -251,7 +260,7 @@ linear-anyway flow h program t = record {
   begins = ∥∥₁_elim t (bool-set _ true) (λ x. x.begins);
   unbounded = λ at f here. bounded-anyway f (∥∥₁_map t (λ x. x.unbounded at f here));
   counts = λ at least most greedy here. few-anyway least most (∥∥₁_map t (λ x. x.counts at least most greedy here));
-  leaves = λ at first last continuation kind here. leaves-anyway kind first last (∥∥₁_map t (λ x. x.leaves at first last continuation kind here));
+  leaves = λ at first last continuation kind here. leaves-anyway h program at kind first last continuation (∥∥₁_map t (λ x. x.leaves at first last continuation kind here));
 }
 
 -- ---- what is told of a text

@@ -1,6 +1,6 @@
 -- A program that passes the test is linear.
 use Rattle.std.specs.Prelude.{IfSome, nat_le, nat_lt}
-use Rattle.std.proofs.Common.{◌≡◌, ℕ, ◌≤◌, ◌⊎◌, inl, inr, ◌&&◌, ◌||◌, ◌==◌, Bool, true, false, List, [], ◌∷◌, length, get_or, Option, Some, subst, arith}
+use Rattle.std.proofs.Common.{◌≡◌, ℕ, suc, ◌+◌, ◌-◌, ◌<◌, ◌≤◌, ◌⊎◌, inl, inr, ◌&&◌, ◌||◌, ◌==◌, Bool, true, false, List, [], ◌∷◌, length, get_or, Option, Some, subst, arith}
 use Rattle.std.proofs.lemmas.Bool.{and_parts, or_cases, eqb-true, ltb-true, leb-true}
 use Rattle.std.proofs.lemmas.Option.{slice_get-get_or}
 use Rattle.regress_meaning.specs.Text.{holds}
@@ -11,9 +11,9 @@ use Rattle.regress_engine_memory.specs.Deciding.{Table, calm_at, flow_of, is_flo
 use Rattle.regress_engine_memory.specs.Passing.{all_pass}
 use Rattle.regress_engine_memory.proofs.Deciding.{decides}
 use Rattle.regress_engine_memory.proofs.TableLemmas.{each-passes}
-use Rattle.regress_engine_linear.specs.Linear.{AreFew, IsLinear, LeavesGroups, few, too_long}
-use Rattle.regress_engine_linear.specs.LinearTests.{fits_at, is_fit, is_unbounded, may_stand}
-use Rattle.regress_engine_linear.specs.RankTables.{Heights, ArePlaced, are_ranked, forward_at}
+use Rattle.regress_engine_linear.specs.Linear.{AreFew, AreLoopFree, IsLinear, LeavesGroups, few, leads_through, too_long}
+use Rattle.regress_engine_linear.specs.LinearTests.{are_loop_free, fits_at, is_fit, is_unbounded, leads_inside, leaves_groups, may_stand}
+use Rattle.regress_engine_linear.specs.RankTables.{Heights, ArePlaced, are_ranked, forward_at, rank_at}
 use Rattle.regress_engine_linear.proofs.Ranking.{ranks-decide}
 
 -- what is some is so
@@ -21,7 +21,7 @@ pub if-some : {T : Type 0} (P : T → Type 0) (x : Option T) (y : T) → x ≡ S
 if-some P x y e known = subst (λ z. IfSome z P) e known
 
 module _ (t : Table) (h : Heights) (program : Program) (flows : is_flow t program ≡ true) (ranked : are_ranked h t program ≡ true) (placed : ArePlaced h (length program.instructions))
-    (fit : is_fit t h program ≡ true) where
+    (fit : is_fit t h program ≡ true) (leave : all_pass (leaves_groups h program) 0 program.instructions ≡ true) where
   abbrev rest : Bool
   rest = (length (live_at t 0) == 0) && (forward_at h 0 && (nat_lt 0 (length h.ranks) && ((length h.ranks == length program.instructions) && (length h.order == length program.instructions))))
 
@@ -52,10 +52,33 @@ module _ (t : Table) (h : Heights) (program : Program) (flows : is_flow t progra
     | inr is ↦ inr (eqb-true most 1 is)
   ]
 
-  leaving : (kind : Submatch) (first last continuation : ℕ) → may_stand (code.submatch kind first last continuation) ≡ true → LeavesGroups kind first last
-  leaving (lookaround true backward) first last continuation e = tt
-  leaving (lookaround false backward) first last continuation e = leb-true last first e
-  leaving atomic first last continuation e = absurd (cc e)
+  loop-free : (nests : Bool) (at first last end : ℕ) → are_loop_free h program nests at first last end ≡ true → AreLoopFree h program nests at first last end
+  loop-free nests at first last end e =
+      let a = and_parts (nat_lt (suc at) end && nat_le (rank_at h end + (end - at)) (rank_at h at)) (all_pass (leads_inside nests at first last end) 0 program.instructions) e in
+      let b = and_parts (nat_lt (suc at) end) (nat_le (rank_at h end + (end - at)) (rank_at h at)) a.0 in
+      record {
+        some = ltb-true (suc at) end b.0;
+        leads = λ k i after ahead here. inside k i after ahead (each-passes (leads_inside nests at first last end) program a.1 k i here);
+        ranks = leb-true (rank_at h end + (end - at)) (rank_at h at) b.1;
+      }
+    where
+      inside : (k : ℕ) (i : Instruction) → at < k → k < end → ((nat_le k at || nat_le end k) || leads_through nests first last end k i) ≡ true → leads_through nests first last end k i ≡ true
+      inside k i after ahead passes = elim (or_cases (nat_le k at || nat_le end k) (leads_through nests first last end k i) passes) [
+        | inl out ↦ elim (or_cases (nat_le k at) (nat_le end k) out) [
+          | inl low ↦ let x = leb-true k at low in absurd (omega (arith, x, after))
+          | inr high ↦ let x = leb-true end k high in absurd (omega (arith, x, ahead))
+        ]
+        | inr is ↦ is
+      ]
+
+  leaving : (at first last end : ℕ) (kind : Submatch) → Stands program at (code.submatch kind first last end) → LeavesGroups h program at kind first last end
+  leaving at first last end (lookaround true backward) here = tt
+  leaving at first last end (lookaround false backward) here = λ some. elim (or_cases (nat_le last first) (are_loop_free h program true at first last end)
+      (each-passes (leaves_groups h program) program leave at (code.submatch (lookaround false backward) first last end) here)) [
+        | inl none ↦ let x = leb-true last first none in absurd (omega (arith, x, some))
+        | inr free ↦ loop-free true at first last end free
+      ]
+  leaving at first last end atomic here = loop-free false at first last end (each-passes (leaves_groups h program) program leave at (code.submatch atomic first last end) here)
 
   pub linear-decides : IsLinear (flow_of t) h program
   linear-decides =
@@ -78,5 +101,5 @@ module _ (t : Table) (h : Heights) (program : Program) (flows : is_flow t progra
         begins = c.0;
         unbounded = λ at f here. bounded f.most (one at (code.enter_loop f) here).1;
         counts = λ at least most greedy here. counted least most (one at (code.single_loop least most greedy) here).1;
-        leaves = λ at first last continuation kind here. leaving kind first last continuation (one at (code.submatch kind first last continuation) here).1;
+        leaves = leaving;
       }

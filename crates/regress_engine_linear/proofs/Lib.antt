@@ -9,3 +9,8 @@ pub mod Formulas
 pub mod Within
 pub mod NextPlaces
 pub mod DecidingLinear
+pub mod ExitAnswers
+pub mod PassageLemmas
+pub mod WorkLemmas
+pub mod MixedLemmas
+pub mod ExitWays

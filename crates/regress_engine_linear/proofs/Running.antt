@@ -32,7 +32,7 @@ pub same-loop : (program : Program) (begin : ℕ) (g f : LoopFields) → Stands 
 same-loop program begin g f one other = let e : Some (code.enter_loop g) ≡ Some (code.enter_loop f) = sym one ∙ other in cc
 
 -- further on than what is further on
-further-on : (last : ℕ) (dir : Direction) (a b c : ℕ) → IsFurther last dir a b → IsFurther last dir b c → IsFurther last dir a c
+pub further-on : (last : ℕ) (dir : Direction) (a b c : ℕ) → IsFurther last dir a b → IsFurther last dir b c → IsFurther last dir a c
 further-on last Forward a b c (past, low) (past', low') = (omega arith, low)
 further-on last Backward a b c past past' = omega arith
 

@@ -1,5 +1,5 @@
 -- Whether runs from an address and an offset have an answer.
-use Rattle.std.specs.Prelude.{◌≡◌, ℕ, suc, ◌&&◌, ◌||◌, Bool, true, false, List, [], ◌∷◌, length, Option, Some, None, is_some, not, if◌then◌else◌, slice_get, nat_le, nat_lt}
+use Rattle.std.specs.Prelude.{◌≡◌, ℕ, suc, ◌-◌, ◌&&◌, ◌||◌, Bool, true, false, List, [], ◌∷◌, length, Option, Some, None, is_some, not, if◌then◌else◌, slice_get, nat_le, nat_lt}
 use Rattle.regress_meaning.specs.Meaning.{Direction}
 use Rattle.regress_meaning.specs.Inputs.{Input}
 use Rattle.regress_front_nodes.specs.Trees.{lookaround, atomic}
@@ -8,7 +8,7 @@ use Rattle.regress_engine_insn.specs.Instructions.{LoopFields, Instruction, Prog
 use Rattle.regress_engine_insn.specs.Instructions as code
 use Rattle.regress_engine_runs.specs.Closed.{takes_character}
 use Rattle.regress_engine_runs.specs.Meets.{Meets, reads_character, IsAtPlace, ReadsPlaces}
-use Rattle.regress_engine_runs.specs.Runs.{Run, advance, counted, fields_of, one_by_one}
+use Rattle.regress_engine_runs.specs.Runs.{Run, advance, after_times, counted, fields_of, one_by_one}
 use Rattle.regress_engine_runs.specs.States.{Marks, Whole}
 use Rattle.regress_engine_runs.specs.UndoStack.{whole}
 use Rattle.regress_engine_memory.specs.Flow.{Flow}
@@ -116,3 +116,25 @@ module _ (told exits : ℕ → ℕ → Bool) (program : Program) (v : View) (dir
   -- and of the one-character loop that stands at the address, if one does
   abbrev pub AreExitsRight : Type 0
   AreExitsRight = (least most : ℕ) (greedy : Bool) (body : Instruction) → Stands program at (code.single_loop least most greedy) → Stands program (suc at) body → AreExitsOf body
+
+-- ---- which exit is preferred
+
+module _ (told : ℕ → ℕ → Bool) where
+  -- the first of some offsets that is told of at an address
+  abbrev pub first_at : (at : ℕ) → List ℕ → Option ℕ
+  first_at at [] = None
+  first_at at (o ∷ os) = if told at o then Some o else first_at at os
+
+  -- the last of them, or another where there is none
+  abbrev pub last_at : (at : ℕ) → List ℕ → Option ℕ → Option ℕ
+  last_at at [] found = found
+  last_at at (o ∷ os) found = last_at at os (if told at o then Some o else found)
+
+  module _ (program : Program) (input : Input) (dir : Direction) (groups : List Marks) where
+    -- the preferred of the exits of a one-character loop, that goes on at an address, if it has as many characters as it needs
+    abbrev pub exit_at : (least most : ℕ) → (greedy : Bool) → Instruction → (at o : ℕ) → Option ℕ
+    exit_at least most greedy i at o = elim (after_times program input least i dir groups o) [
+      | None ↦ None
+      | Some near ↦ if greedy then last_at at (one_by_one program input (most - least) i dir groups near) None
+          else first_at at (one_by_one program input (most - least) i dir groups near)
+    ]

@@ -1,12 +1,12 @@
 -- The test that a program is linear.
-use Rattle.std.specs.Prelude.{ℕ, ◌&&◌, ◌||◌, ◌==◌, Bool, true, false, length, nat_le, nat_lt}
+use Rattle.std.specs.Prelude.{ℕ, suc, ◌+◌, ◌-◌, ◌&&◌, ◌||◌, ◌==◌, Bool, true, false, length, nat_le, nat_lt}
 use Rattle.regress_front_nodes.specs.Trees.{lookaround, atomic}
 use Rattle.regress_engine_insn.specs.Instructions.{Instruction, Program}
 use Rattle.regress_engine_insn.specs.Instructions as code
 use Rattle.regress_engine_memory.specs.Deciding.{Table, calm_at, live_at}
 use Rattle.regress_engine_memory.specs.Passing.{all_pass}
-use Rattle.regress_engine_linear.specs.Linear.{few, too_long}
-use Rattle.regress_engine_linear.specs.RankTables.{Heights, forward_at}
+use Rattle.regress_engine_linear.specs.Linear.{few, leads_through, too_long}
+use Rattle.regress_engine_linear.specs.RankTables.{Heights, forward_at, rank_at}
 
 -- a greatest number is one that no text can reach
 abbrev pub is_unbounded : ℕ → Bool
@@ -16,9 +16,6 @@ is_unbounded most = nat_le too_long most
 abbrev pub may_stand : Instruction → Bool
 may_stand (code.enter_loop f) = is_unbounded f.most || (f.most == 1)
 may_stand (code.single_loop least most greedy) = nat_le least few && (is_unbounded most || nat_le most few)
-may_stand (code.submatch (lookaround true backward) first last continuation) = true
-may_stand (code.submatch (lookaround false backward) first last continuation) = nat_le last first
-may_stand (code.submatch atomic first last continuation) = false
 may_stand i = true
 
 module _ (t : Table) where
@@ -30,3 +27,20 @@ module _ (t : Table) where
   abbrev pub is_fit : Heights → Program → Bool
   is_fit h program = all_pass fits_at 0 program.instructions && ((length (live_at t 0) == 0) && (forward_at h 0
       && (nat_lt 0 (length h.ranks) && ((length h.ranks == length program.instructions) && (length h.order == length program.instructions)))))
+
+-- an instruction stands outside of contents, from behind one address up to before another, or leads through them
+abbrev pub leads_inside : (nests : Bool) → (at first last end : ℕ) → (b : ℕ) → Instruction → Bool
+leads_inside nests at first last end b i = (nat_le b at || nat_le end b) || leads_through nests first last end b i
+
+module _ (h : Heights) (program : Program) where
+  -- contents have no loop
+  abbrev pub are_loop_free : (nests : Bool) → (at first last continuation : ℕ) → Bool
+  are_loop_free nests at first last continuation =
+      (nat_lt (suc at) continuation && nat_le (rank_at h continuation + (continuation - at)) (rank_at h at))
+      && all_pass (leads_inside nests at first last continuation) 0 program.instructions
+
+  -- what a lookaround or an atomic group leaves is as it has to be
+  abbrev pub leaves_groups : (at : ℕ) → Instruction → Bool
+  leaves_groups at (code.submatch (lookaround false backward) first last continuation) = nat_le last first || are_loop_free true at first last continuation
+  leaves_groups at (code.submatch atomic first last continuation) = are_loop_free false at first last continuation
+  leaves_groups at i = true

@@ -1,6 +1,7 @@
 //! Programs of which a table, a bit for each address at each offset of a text, tells whether runs have an answer.
 #![tactic(auto)]
 
+mod contents;
 mod laws;
 mod making;
 mod ranks;

@@ -66,6 +66,39 @@ fn forward(alloc: Global, insns: &[Insn]) -> Result<Vec<bool>, AllocError> {
     Ok(forward)
 }
 
+/// For each address the first from it on at which a repetition begins, or the address behind the last.
+fn next_loops(alloc: Global, insns: &[Insn]) -> Result<Vec<usize>, AllocError> {
+    let mut next: Vec<usize> = Vec::new(alloc);
+    let mut found = insns.len();
+    next.resize(insns.len(), found)?;
+    for at in (0..insns.len()).rev() {
+        if matches!(&insns[at], Insn::EnterLoop(_) | Insn::Loop1CharBody { .. }) {
+            found = at;
+        }
+        if at < next.len() {
+            next[at] = found;
+        }
+    }
+    Ok(next)
+}
+
+/// The addresses inside of contents in which no repetition begins.
+fn loop_free(alloc: Global, insns: &[Insn]) -> Result<Vec<bool>, AllocError> {
+    let next = next_loops(alloc, insns)?;
+    let mut free = Vec::new(alloc);
+    let mut end = 0;
+    for at in 0..insns.len() {
+        free.push(at < end)?;
+        if let Some(contents) = contents_of(&insns[at], true)
+            && at < next.len()
+            && contents.end <= next[at]
+        {
+            end = contents.end.max(end);
+        }
+    }
+    Ok(free)
+}
+
 /// The rank above that of an address.
 fn above(ranks: &[usize], at: usize) -> usize {
     if at < ranks.len() {
@@ -76,14 +109,20 @@ fn above(ranks: &[usize], at: usize) -> usize {
 }
 
 /// The rank of an address as its instruction suggests it, where those of the addresses behind it are known, and of those before it what was
-/// thought before.
-fn suggested_rank(insns: &[Insn], ranks: &[usize], before: &[usize], at: usize) -> usize {
+/// thought before. Behind what takes something ranks may begin anew, but not inside of contents without loops: these are ranked between where
+/// they stand and what is behind them.
+fn suggested_rank(
+    insns: &[Insn],
+    ranks: &[usize],
+    before: &[usize],
+    is_free: bool,
+    at: usize,
+) -> usize {
     let Some(insn) = insns.get(at) else {
         return 0;
     };
     let next = above(ranks, at.saturating_add(1));
     match insn {
-        Insn::Goal | Insn::JustFail | Insn::BackRef { .. } => 0,
         Insn::Jump { target } => above(ranks, *target as usize),
         Insn::Alt { secondary } => next.max(above(ranks, *secondary as usize)),
         Insn::EnterLoop(repetition) => next.max(above(ranks, repetition.exit as usize)),
@@ -102,7 +141,13 @@ fn suggested_rank(insns: &[Insn], ranks: &[usize], before: &[usize], at: usize) 
         Insn::Lookahead { continuation, .. }
         | Insn::Lookbehind { continuation, .. }
         | Insn::Atomic { continuation, .. } => next.max(above(ranks, *continuation as usize)),
-        _ => { if taken_by(insn) > 0 { 0 } else { next } }
+        _ => {
+            if taken_by(insn) > 0 && !is_free {
+                0
+            } else {
+                next
+            }
+        }
     }
 }
 
@@ -111,11 +156,13 @@ fn suggested_ranks(
     alloc: Global,
     insns: &[Insn],
     before: &[usize],
+    free: &[bool],
 ) -> Result<Vec<usize>, AllocError> {
     let mut ranks: Vec<usize> = Vec::new(alloc);
     ranks.resize(insns.len(), 0)?;
     for at in (0..insns.len()).rev() {
-        let rank = suggested_rank(insns, &ranks, before, at);
+        let is_free = at < free.len() && free[at];
+        let rank = suggested_rank(insns, &ranks, before, is_free, at);
         if at < ranks.len() {
             ranks[at] = rank;
         }
@@ -125,9 +172,10 @@ fn suggested_ranks(
 
 /// The addresses of a program, those first to which the instructions of others may lead without taking anything.
 fn order(alloc: Global, insns: &[Insn]) -> Result<Vec<usize>, AllocError> {
+    let free = loop_free(alloc, insns)?;
     let mut ranks: Vec<usize> = Vec::new(alloc);
     for _ in 0..MOST_ROUNDS {
-        let suggested = suggested_ranks(alloc, insns, &ranks)?;
+        let suggested = suggested_ranks(alloc, insns, &ranks, &free)?;
         if suggested == ranks {
             break;
         }

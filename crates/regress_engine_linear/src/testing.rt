@@ -45,19 +45,6 @@ fn may_stand(insn: &Insn) -> bool
         } => {
             *min_iters <= MOST_REPEATS && (is_unbounded(*max_iters) || *max_iters <= MOST_REPEATS)
         }
-        Insn::Lookahead {
-            negate,
-            start_group,
-            end_group,
-            ..
-        }
-        | Insn::Lookbehind {
-            negate,
-            start_group,
-            end_group,
-            ..
-        } => *negate || end_group <= start_group,
-        Insn::Atomic { .. } => false,
         _ => true,
     }
 }
@@ -164,6 +151,9 @@ impl LinearTable {
         let Some(ranks) = RankTable::of(alloc, insns, &flow, loops)? else {
             return Ok(None);
         };
+        if !ranks.leave_groups(insns) {
+            return Ok(None);
+        }
         let table = LinearTable { flow, ranks };
         if table.begins(insns.len()) {
             Ok(Some(table))

@@ -1,7 +1,7 @@
 use Rattle.std.proofs.Common.{ap}
 use Rattle.regress_engine_runs.specs.States.{unset}
 use Rattle.regress_engine_search.specs.StateViews.{marks_of}
-use Rattle.regress_engine_answers.proofs.WalkLemmas.{filled}
+use Rattle.regress_engine_linear.proofs.ExitWays.{filled}
 use Rattle.regress_engine_answers.proofs.walking.reset.Goals as goal
 
 pub returns-clause-marks : goal.returns-clause-marks

@@ -1,12 +1,13 @@
 use Rattle.regress_engine_linear.specs.Linear.{IsDue}
 use Rattle.std.proofs.Common.{◌≡◌, ℕ, Bool, true, false, Some, length, refl, sym, ap, ◌∙◌, subst}
-use Rattle.std.specs.Prelude.{slice_get}
+use Rattle.std.specs.Prelude.{map, slice_get}
 use Rattle.regress_engine_code.specs.Standing.{program_of}
 use Rattle.regress_engine_input.specs.Views.{direction_of, input_of, reading_of}
 use Rattle.regress_engine_insn.specs.Instructions.{Instruction, Stands}
 use Rattle.regress_engine_insn.specs.InsnViews.{instruction}
 use Rattle.regress_engine_runs.specs.Meets.{IsAtPlace, reads_character}
 use Rattle.regress_engine_runs.proofs.RunViews.{one_stands}
+use Rattle.regress_engine_search.specs.StateViews.{marks_of}
 use Rattle.regress_engine_linear.specs.LinearViews.{flow_in, heights_in}
 use Rattle.regress_engine_answers.proofs.FillLemmas.{exits-known, never-come, one-due, skipped, unreferring-there, worked}
 use Rattle.regress_engine_answers.proofs.FillingWays.{due-stands, ok-two}
@@ -61,13 +62,13 @@ work_at-requires-clause-stands g c =
     due-stands flow h v all program c.requires.suits c.requires.linear c.requires.short c.args.forward c.args.rank c.address-at.result (c.is_due.ensures.due c.if-not-is_due.false)
 
 pub work_at-requires-clause-calm : goal.work_at-requires-clause-calm
-work_at-requires-clause-calm g c i here =
+work_at-requires-clause-calm g c b i here =
     let v = g.Input.InputIndexer.view c.args.self.now.input in
     let all = g.met.Input.InputIndexer.are_of_kind c.args.self.now.input in
     let program = program_of c.args.self.now.program.now in
     let flow = flow_in c.args.table.now in
     let h = heights_in c.args.table.now in
-    unreferring-there flow h v all program c.requires.suits c.requires.linear c.requires.short c.address-at.result i here
+    unreferring-there flow h v all program c.requires.suits c.requires.linear c.requires.short b i here
 
 pub work_at-requires-clause-exits : goal.work_at-requires-clause-exits
 work_at-requires-clause-exits g c =
@@ -100,6 +101,9 @@ returns-clause-filled g c =
     ] in
     ok-two c.work_at.result
     (λ told exits. worked flow h v all program c.requires.suits c.requires.linear c.requires.short c.args.answers.now c.args.forward c.args.rank c.args.offset c.requires.filled at
-    due.2 due.1 c.requires.lies due.0
+    due.2 due.1 c.requires.lies (map marks_of c.args.self.now.groups.now) due.0
     (λ b within rank. one-due flow h v all program c.requires.suits c.requires.linear c.requires.short c.args.rank at b here within rank)
     i stands reads c.work_at.new.answers (told i stands) (exits i stands)) c.work_at.ensures.told c.work_at.ensures.exits
+
+pub work_at-requires-clause-placed : goal.work_at-requires-clause-placed
+work_at-requires-clause-placed g c = c.requires.filled.spots

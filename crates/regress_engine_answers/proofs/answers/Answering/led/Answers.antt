@@ -1,7 +1,6 @@
 use Rattle.std.proofs.Common.{◌+◌, map, sym, ap, ◌∙◌, subst}
 use Rattle.regress_engine_code.specs.Standing.{program_of}
-use Rattle.regress_meaning.specs.Meaning.{Forward}
-use Rattle.regress_engine_input.specs.Views.{input_of}
+use Rattle.regress_engine_input.specs.Views.{direction_of, input_of}
 use Rattle.regress_engine_insn.specs.Instructions.{Stands}
 use Rattle.regress_engine_insn.specs.InsnViews.{instruction}
 use Rattle.regress_engine_runs.specs.Meets.{reads_character}
@@ -9,8 +8,9 @@ use Rattle.regress_engine_search.specs.StateViews.{marks_of}
 use Rattle.regress_engine_linear.specs.Answered.{is_single}
 use Rattle.regress_engine_answers.specs.AnswerTables.{told_by}
 use Rattle.regress_engine_answers.specs.Walked.{led, station_at}
-use Rattle.regress_engine_answers.proofs.WalkLemmas.{single-body, single-led, single-stands}
-use Rattle.regress_engine_answers.proofs.WorkLemmas.{not-single}
+use Rattle.regress_engine_answers.proofs.WalkLemmas.{single-led}
+use Rattle.regress_engine_linear.proofs.ExitWays.{single-body, single-stands}
+use Rattle.regress_engine_linear.proofs.WorkLemmas.{not-single}
 use Rattle.regress_engine_answers.proofs.answers.Answering.led.Goals as goal
 
 pub instruction-body-requires : goal.instruction-body-requires
@@ -51,6 +51,6 @@ returns-in-Loop1CharBody g c =
     let told = told_by c.args.answers.now in
     c.station_at.ensures
     ∙ ap (station_at (c.args.at + 2)) c.exit-exit.ensures
-    ∙ single-led told program input gs c.args.at c.args.offset c.in-Loop1CharBody.min_iters c.in-Loop1CharBody.max_iters c.in-Loop1CharBody.greedy (instruction c.instruction-body.result.now)
+    ∙ single-led told program input (direction_of c.args.forward) gs c.args.at c.args.offset c.in-Loop1CharBody.min_iters c.in-Loop1CharBody.max_iters c.in-Loop1CharBody.greedy (instruction c.instruction-body.result.now)
     c.instruction-body.ensures.stands
-    ∙ ap (λ x. led told program input Forward gs (instruction x) c.args.at c.args.offset) (sym c.in-Loop1CharBody.is)
+    ∙ ap (λ x. led told program input (direction_of c.args.forward) gs (instruction x) c.args.at c.args.offset) (sym c.in-Loop1CharBody.is)

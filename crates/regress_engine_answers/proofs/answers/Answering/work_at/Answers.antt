@@ -2,13 +2,15 @@ use Rattle.std.specs.Prelude.{map}
 use Rattle.std.proofs.Common.{◌&&◌, ◌||◌, ◌==◌, Result, Ok, Err, OnOk, refl, sym, ap, ◌∙◌, subst, arith}
 use Rattle.std.proofs.lemmas.List.{length-map}
 use Rattle.regress_engine_code.specs.Standing.{program_of}
-use Rattle.regress_engine_input.specs.Views.{View, direction_of}
+use Rattle.regress_engine_input.specs.Views.{View, direction_of, input_of}
 use Rattle.regress_engine_insn.specs.Instructions.{Program, Stands}
 use Rattle.regress_engine_insn.specs.Instructions as code
 use Rattle.regress_engine_insn.specs.InsnViews.{instruction}
+use Rattle.regress_engine_runs.proofs.RunViews.{one_stands}
 use Rattle.regress_engine_search.specs.StateViews.{marks_of}
 use Rattle.regress_engine_answers.specs.AnswerTables.{exits_by, told_by}
-use Rattle.regress_engine_answers.proofs.WorkLemmas.{answer-is, body-repeated, body-stands, exits-of, exits-value-is, not-single, numbers-order, ready-there}
+use Rattle.regress_engine_answers.proofs.Ends.{single-value}
+use Rattle.regress_engine_linear.proofs.WorkLemmas.{answer-is, body-repeated, body-stands, exits-of, exits-value-is, not-single, numbers-order, ready-there}
 use Rattle.regress_engine_answers.proofs.answers.Answering.work_at.Goals as goal
 
 -- what is so where a call succeeds makes another thing so
@@ -48,23 +50,24 @@ work_out_single-requires-clause-exits g c =
     (subst (λ x. Stands (program_of c.args.self.now.program.now) c.args.at (instruction x)) single.is c.instruction-insn.ensures.stands)
     (told_by c.args.answers.now) (exits_by c.args.answers.now) (direction_of c.args.forward) c.args.offset (instruction c.instruction-body.result.now) c.instruction-body.ensures.stands c.requires.exits
 
-pub work_out-requires : goal.work_out-requires
-work_out-requires g c =
-    let program : Program = program_of c.args.self.now.program.now in
-    let v : View = g.Input.InputIndexer.view c.args.self.now.input in
+pub work_out-requires-clause-ready : goal.work_out-requires-clause-ready
+work_out-requires-clause-ready g c simple =
     let i = instruction c.instruction-insn.result.now in
-    let calm = c.requires.calm i c.instruction-insn.ensures.stands in
+    let stands = c.instruction-insn.ensures.stands in
+    ready-there (g.Input.InputIndexer.view c.args.self.now.input) (program_of c.args.self.now.program.now) c.requires.suits (map marks_of c.args.self.now.groups.now)
+    (length-map c.args.self.now.groups.now marks_of ∙ c.requires.groups) c.args.offset c.args.at i (c.requires.place i stands) stands (c.requires.calm c.args.at i stands) simple
+
+pub work_out-requires-clause-within : goal.work_out-requires-clause-within
+work_out-requires-clause-within g c =
     let within = c.requires.within in
     let count = c.requires.count in
-    record {
-      suits = c.requires.suits;
-      ready = λ simple. ready-there v program c.requires.suits (map marks_of c.args.self.now.groups.now)
-          (length-map c.args.self.now.groups.now marks_of ∙ c.requires.groups) c.args.offset c.args.at i (c.requires.place i c.instruction-insn.ensures.stands) c.instruction-insn.ensures.stands calm simple;
-      room = c.instruction-insn.ensures.room;
-      within = omega (arith, within, count);
-      plain = not-single c.instruction-insn.result.now c.in_default.not-Loop1CharBody;
-      calm = calm;
-    }
+    omega (arith, within, count)
+
+pub work_out-requires-clause-plain : goal.work_out-requires-clause-plain
+work_out-requires-clause-plain g c = not-single c.instruction-insn.result.now c.in_default.not-Loop1CharBody
+
+pub work_out-requires-clause-unreferring : goal.work_out-requires-clause-unreferring
+work_out-requires-clause-unreferring g c = c.requires.calm c.args.at (instruction c.instruction-insn.result.now) c.instruction-insn.ensures.stands
 
 pub returns-in-Loop1CharBody-clause-told : goal.returns-in-Loop1CharBody-clause-told
 returns-in-Loop1CharBody-clause-told g c =
@@ -76,7 +79,9 @@ returns-in-Loop1CharBody-clause-told g c =
     let old = c.args.answers.now in
     ok-more c.work_out_single.result
     (λ told i stands a o. told single.greedy a o ∙ ap (λ b. told_by old a o || (((a == c.args.at) && (c.args.offset == o)) && b))
-    (sym (answer-is v program c.requires.suits c.args.at single.min_iters single.max_iters single.greedy here (told_by old) (exits_by old) (direction_of c.args.forward) c.args.offset
+    (sym (single-value (told_by old) program (input_of v) (direction_of c.args.forward) (map marks_of c.args.self.now.groups.now) c.args.at c.args.offset single.min_iters single.max_iters
+    single.greedy i (one_stands program (input_of v) c.args.at (code.single_loop single.min_iters single.max_iters single.greedy) i here stands)
+    ∙ answer-is v program c.requires.suits c.args.at single.min_iters single.max_iters single.greedy here (told_by old) (exits_by old) (direction_of c.args.forward) c.args.offset
     (instruction c.instruction-body.result.now) c.instruction-body.ensures.stands i stands)))
     c.work_out_single.ensures.told
 

@@ -18,4 +18,4 @@ returns-then-begins c program are =
     let placed = if-some _ c.in_ok-ranks.field-0 c.in-Some-2.ranks c.in-Some-2.is c.in_ok-ranks.ensures.placed in
     let begins = subst (λ n. ((length (live_at t 0) == 0) && (forward_at h 0 && (nat_lt 0 (length h.ranks) && ((length h.ranks == n) && (length h.order == n))))) ≡ true) (sym count) (sym c.begins.ensures ∙ c.if-begins.true) in
     linear-decides t h program (flows program are).0 (ranked program are) (subst (ArePlaced h) (sym count) placed)
-    (ap₂ (λ x y. x && y) (sym (c.are_fit.ensures program are) ∙ c.if-not-are_fit.false) begins)
+    (ap₂ (λ x y. x && y) (sym (c.are_fit.ensures program are) ∙ c.if-not-are_fit.false) begins) (sym (c.leave_groups.ensures program are) ∙ c.if-not-leave_groups.false)

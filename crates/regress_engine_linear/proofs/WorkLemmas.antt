@@ -1,7 +1,8 @@
 -- What may be asked where an instruction stands, and what is worked out there.
 use Rattle.std.specs.Prelude.{IfSome, get_or}
-use Rattle.std.proofs.Common.{◌≡◌, ℕ, suc, ◌+◌, ◌≤◌, Bool, true, false, List, [], length, Option, None, Some, refl, sym, ap, ◌∙◌, subst, arith}
-use Rattle.regress_meaning.specs.Meaning.{Direction}
+use Rattle.std.proofs.Common.{◌≡◌, ℕ, suc, ◌+◌, ◌≤◌, ◌&&◌, ◌||◌, ◌==◌, Bool, true, false, List, [], length, Option, None, Some, refl, sym, ap, ap₂, ◌∙◌, subst, arith}
+use Rattle.std.proofs.lemmas.Bool.{eq-eqb, eqb-true}
+use Rattle.regress_meaning.specs.Meaning.{Direction, Forward, Backward}
 use Rattle.regress_engine_input.specs.Views.{View, input_of, reading_of}
 use Rattle.regress_engine_insn.specs.Instructions.{Instruction, Program, Stands}
 use Rattle.regress_engine_insn.specs.Instructions as code
@@ -10,13 +11,14 @@ use Rattle.regress_engine_insn.specs.declared.insn.Insn.{Insn}
 use Rattle.regress_engine_insn.specs.declared.insn.Insn.TheVariants.{Loop1CharBody}
 use Rattle.regress_engine_runs.specs.Closed.{takes_character}
 use Rattle.regress_engine_runs.specs.Meets.{AreAtPlaces, IsAtPlace, ReadsPlaces, reads_character, referred}
-use Rattle.regress_engine_runs.specs.Runs.{advance, counted}
+use Rattle.regress_engine_runs.specs.Runs.{advance, counted, room}
 use Rattle.regress_engine_runs.specs.States.{Marks, Whole, range_of, unset}
 use Rattle.regress_engine_runs.specs.UndoStack.{whole}
 use Rattle.regress_engine_runs.proofs.RunViews.{one_stands}
 use Rattle.regress_engine_search.specs.Ready.{IsReady, is_simple}
 use Rattle.regress_engine_search.specs.Search.{Suits}
 use Rattle.regress_engine_search.proofs.ReadyLemmas.{simple-ready}
+use Rattle.regress_engine_linear.proofs.Formulas.{or-none}
 use Rattle.regress_engine_linear.specs.Answered.{answer_at, exits_at, exits_value_at, is_single, one_at, AreExitsOf, AreExitsRight, IsRepeated}
 
 -- what refers to no group reads at places where its offset is at one
@@ -82,3 +84,21 @@ module _ (v : View) (program : Program) (suits : Suits program v) (at least most
 pub not-single : (i : Insn) → ((x y : ℕ) (z : Bool) → i ≡ Loop1CharBody x y z → ⊥) → is_single (instruction i) ≡ false
 not-single (Loop1CharBody x y z) other = absurd (other x y z refl)
 not-single _ other = refl
+
+-- a bit is as it was, but at one address and offset
+pub bit-elsewhere : (at o b q : ℕ) (old value : Bool) → (b ≡ at → q ≡ o → ⊥) → (old || (((b == at) && (o == q)) && value)) ≡ old
+bit-elsewhere at o b q old value other = by_value (b == at) (o == q) refl refl
+  where
+    by_value : (x y : Bool) → (b == at) ≡ x → (o == q) ≡ y → (old || ((x && y) && value)) ≡ old
+    by_value true true e f = absurd (other (eqb-true b at e) (sym (eqb-true o q f)))
+    by_value true false e f = or-none old
+    by_value false y e f = or-none old
+
+-- there it is what was worked out
+pub bit-here : (at o : ℕ) (old value : Bool) → old ≡ false → (old || (((at == at) && (o == o)) && value)) ≡ value
+bit-here at o old value fresh =
+    ap (λ b. b || (((at == at) && (o == o)) && value)) fresh ∙ ap₂ (λ x y. (x && y) && value) (eq-eqb at at refl) (eq-eqb o o refl)
+
+pub room-end : (last : ℕ) (d : Direction) (o : ℕ) → o ≤ last → room last d o ≤ last
+room-end last Forward o low = omega arith
+room-end last Backward o low = omega (arith, low)

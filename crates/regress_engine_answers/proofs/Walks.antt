@@ -1,0 +1,368 @@
+-- A walk along what is told to have an answer goes on, comes nearer to its end, and has its answer there.
+use Rattle.std.specs.Prelude.{nat_lt, nat_le}
+use Rattle.std.proofs.Common.{◌≡◌, inl, inr, ℕ, suc, ◌+◌, ◌*◌, ◌<◌, ◌≤◌, ◌&&◌, Bool, true, false, List, [], ◌∷◌, length, Option, None, Some, if◌then◌else◌, refl, sym, ap, ◌∙◌, subst, arith}
+use Rattle.std.proofs.lemmas.Bool.{and_parts, ltb-true}
+use Rattle.std.proofs.lemmas.Bool.Decides.{nat_tests}
+use Rattle.std.proofs.lemmas.Nat.{mul-le}
+use Rattle.std.proofs.Math.Nat.{suc-mul}
+use Rattle.regress_meaning.specs.Meaning.{Direction, Forward}
+use Rattle.regress_front_nodes.specs.Trees.{Submatch, lookaround, atomic}
+use Rattle.regress_engine_input.specs.Views.{View, AreOfKind, direction_of, input_of, reading_of}
+use Rattle.regress_engine_insn.specs.Instructions.{Instruction, Program, Stands}
+use Rattle.regress_engine_insn.specs.Instructions as code
+use Rattle.regress_engine_runs.specs.States.{Marks, Whole, first_state, mixed}
+use Rattle.regress_engine_runs.specs.Runs.{room}
+use Rattle.regress_engine_runs.specs.Closed.{takes_character}
+use Rattle.regress_engine_runs.specs.Items.{Answers as EndsIn}
+use Rattle.regress_engine_runs.specs.Meets.{IsAtPlace, reads_character}
+use Rattle.regress_engine_runs.specs.UndoStack.{whole}
+use Rattle.regress_engine_runs.proofs.RunViews.{one_stands}
+use Rattle.regress_engine_search.specs.Ready.{IsReady, is_simple}
+use Rattle.regress_engine_search.specs.Search.{Suits}
+use Rattle.regress_engine_search.specs.Answering.{IsAnswer}
+use Rattle.regress_engine_search.proofs.SkipLemmas.{place-lies}
+use Rattle.regress_engine_memory.specs.Flow.{Flow}
+use Rattle.regress_engine_memory.specs.Under.{IsOnward}
+use Rattle.regress_engine_memory.proofs.Onward.{room-less}
+use Rattle.regress_engine_linear.specs.Ranks.{AreRunning, IsBeyond}
+use Rattle.regress_engine_linear.specs.RankTables.{Heights, forward_at, rank_at, ranking_of}
+use Rattle.regress_engine_linear.specs.Answered.{Ends, IsAnswered, ReadsAlong, is_single}
+use Rattle.regress_engine_answers.specs.AnswerTables.{told_by}
+use Rattle.regress_engine_linear.specs.Linear.{AreLoopFree, leads_through, may_stand_inside}
+use Rattle.regress_engine_answers.specs.Walked.{AreExitsTold, IsAhead, IsInside, IsOnWay, MayWalk, Walk, Walks, entered, far, frame, goes, inside_forward, is_entered, led, marked, offset_behind, returns, station}
+use Rattle.regress_engine_answers.specs.declared.answers.Answers.{Answers}
+use Rattle.regress_engine_answers.specs.declared.walker.Frame.{Frame}
+use Rattle.regress_engine_answers.specs.declared.walker.Station.{Station}
+use Rattle.regress_engine_linear.proofs.MixedLemmas.{mixed-length, mixed-outside, mixed-same}
+use Rattle.regress_engine_linear.proofs.FromStart.{running-first}
+use Rattle.regress_engine_answers.proofs.Through.{kept-on, through}
+use Rattle.regress_engine_answers.proofs.WalkLemmas.{atomic-into, place-here, ready-here, at-goal, ends-way, exits-told-of, look-into, on-way, rank-low, told-there}
+
+-- what stands inside of contents ends inside, and its groups are inside
+fits-inside : (nests : Bool) (kind : Submatch) (at low high continuation first last end : ℕ) → leads_through nests first last end at (code.submatch kind low high continuation) ≡ true
+    → (continuation < end) × (first ≤ low) × (high ≤ last)
+fits-inside nests kind at low high continuation first last end leads =
+    let parts = (and_parts (may_stand_inside nests kind) (nat_lt (suc at) end && ((nat_lt at continuation && nat_lt continuation end) && (nat_le first low && nat_le high last))) leads).1 in
+    grind (arith, nat_tests, parts)
+
+station-is : (at o : ℕ) (x : Station) → Some (station at o) ≡ Some x → station at o ≡ x
+station-is at o x e = cc
+
+walk-is : (x y : Walk) → Some x ≡ Some y → x ≡ y
+walk-is x y e = cc
+
+module _ (flow : Flow) (h : Heights) (v : View) (all : AreOfKind v.kind v.units) (program : Program) (suits : Suits program v) (a : Answers) (may : MayWalk flow h program v a) where
+  abbrev Goes : (start : ℕ) → List Frame → (forward : Bool) → (at o : ℕ) → List Marks → Type 0
+  Goes start frames forward at o gs = Walks flow h program v start frames forward at o gs
+
+  abbrev left : List Frame → (at o : ℕ) → ℕ
+  left frames at o = far h v frames at o
+
+  abbrev Anywhere : (at o : ℕ) → Type 0
+  Anywhere at o = Unit {0}
+
+  abbrev last : ℕ
+  last = length v.units
+
+  right : (dir : Direction) (at o : ℕ) → at < length h.ranks → o ≤ last → direction_of (forward_at h at) ≡ dir → Anywhere at o
+      → IsAnswered flow (ranking_of h) program v dir at o (told_by a at o)
+  right dir at o there low way anywhere = subst (λ d. IsAnswered flow (ranking_of h) program v d at o (told_by a at o)) way (may.right at o there low)
+
+  past : (dir : Direction) (s u : Whole) → Anywhere s.at s.offset → IsBeyond (ranking_of h) last dir s u → Anywhere u.at u.offset
+  past dir s u anywhere beyond = tt
+
+  abbrev Way : (forward : Bool) → Whole → (at o : ℕ) → List Marks → Type 0
+  Way forward w at o gs = IsOnWay flow h program v (direction_of forward) w at o gs
+
+  -- it is on its way
+  pub walk-way : (start : ℕ) (frames : List Frame) (forward : Bool) (at o : ℕ) (gs : List Marks) → Goes start frames forward at o gs → (w : Whole) × Way forward w at o gs
+  walk-way start [] true at o gs (is, (w, way, ends)) = (w, way)
+  walk-way start [] false at o gs (is, (w, way, ends)) = absurd (cc is)
+  walk-way start (f ∷ fs) forward at o gs (w, before, way, inside, ahead, rest) = (w, way)
+
+  nearer : (s u : Whole) → IsBeyond (ranking_of h) (length v.units) Forward s u → u.at < length h.ranks → left [] u.at u.offset < left [] s.at s.offset
+  nearer s u beyond there = by_way beyond
+    where
+      N : ℕ
+      N = length h.order
+
+      by_way : IsBeyond (ranking_of h) last Forward s u → room last Forward u.offset * N + rank_at h u.at < room last Forward s.offset * N + rank_at h s.at
+      by_way (inl further) =
+          let less : suc (room last Forward u.offset) ≤ room last Forward s.offset = room-less last Forward s.offset u.offset further in
+          let more = mul-le (suc (room last Forward u.offset)) N (room last Forward s.offset) N less (omega arith) in
+          let one = suc-mul (room last Forward u.offset) N in
+          let low = rank-low h may.pass.placed u.at there in
+          omega (arith, more, one, low)
+      by_way (inr (same, lower)) = let e = ap (λ x. room last Forward x * N) same in omega (arith, e, lower)
+
+  -- the offset is no further back
+  onward-room : (forward : Bool) (s u : Whole) → IsBeyond (ranking_of h) last (direction_of forward) s u → forward ≡ true → room last Forward u.offset ≤ room last Forward s.offset
+  onward-room false s u beyond e = absurd (cc e)
+  onward-room true s u (inl further) e = let less = room-less last Forward s.offset u.offset further in omega (arith, less)
+  onward-room true s u (inr (same, lower)) e = let even = ap (room last Forward) same in omega (arith, even)
+
+  onward-offset : (forward : Bool) (o q : ℕ) → IsOnward last (direction_of forward) o q → forward ≡ true → room last Forward q ≤ room last Forward o
+  onward-offset false o q on e = absurd (cc e)
+  onward-offset true o q (inl same) e = let even = ap (room last Forward) same in omega (arith, even)
+  onward-offset true o q (inr further) e = let less = room-less last Forward o q further in omega (arith, less)
+
+  -- Where an instruction leads on the walk goes on, and comes nearer.
+  walk-on : (start : ℕ) (frames : List Frame) (forward : Bool) (at o : ℕ) (gs hs : List Marks) → Goes start frames forward at o gs → (i : Instruction) → Stands program at i → is_entered i ≡ false
+      → (x : Station) → led (told_by a) program (input_of v) (direction_of forward) hs i at o ≡ Some x
+      → Goes start frames forward x.at x.offset (marked (direction_of forward) i o gs) × (left frames x.at x.offset < left frames at o)
+  walk-on start [] false at o gs hs (is, (w, way, ends)) i here out x e = absurd (cc is)
+  walk-on start [] true at o gs hs (is, (w, way, ends)) i here out x e =
+      let (on, ls, beyond) = on-way flow h v all program suits may.pass Forward (told_by a) Anywhere (right Forward) (past Forward) w at o gs way tt hs i here out x e in (
+        (refl, (w, on, ends)),
+        nearer (whole at o way.loops gs) (whole x.at x.offset ls (marked Forward i o gs)) beyond on.there,
+      )
+  walk-on start (f ∷ fs) forward at o gs hs (w, before, way, inside, ahead, rest) i here out x e =
+      let dir = direction_of forward in
+      let leads = inside.free.leads at i inside.after inside.ahead here in
+      let (more, less) = through inside.nests inside.first inside.last f.continuation (told_by a) program (input_of v) dir hs at o x i leads e in
+      let (on, ls, beyond) = on-way flow h v all program suits may.pass dir (told_by a) Anywhere (right dir) (past dir) w at o gs way tt hs i here out x e in
+      let after = inside.after in
+      let still : IsInside h program f.continuation x.at (marked dir i o gs) before = record {
+        look = inside.look;
+        first = inside.first;
+        last = inside.last;
+        nests = inside.nests;
+        free = inside.free;
+        after = omega (arith, after, more);
+        ahead = less;
+        kept = kept-on inside.nests inside.first inside.last f.continuation dir at o i gs before leads inside.kept;
+      } in
+      let nearby : IsAhead last f forward x.offset = λ away. (
+        (ahead away).0,
+        λ is.
+            let far-off = (ahead away).1 is in
+            let step = onward-room forward (whole at o way.loops gs) (whole x.at x.offset ls (marked dir i o gs)) beyond ((ahead away).0 ∙ is) in
+            omega (arith, far-off, step),
+      ) in
+      ((w, before, on, still, nearby, rest), omega (arith, more, less))
+
+  -- Into contents the walk goes on, and comes nearer.
+  module _ (start : ℕ) (forward : Bool) (at o : ℕ) (gs : List Marks) (kind : Submatch) (low high continuation : ℕ) (here : Stands program at (code.submatch kind low high continuation)) where
+    abbrev new : Frame
+    new = frame continuation o forward (returns kind)
+
+    -- a way into them, and one behind them, no further back
+    abbrev Into : Whole → Type 0
+    Into w = (t : Whole) × Way (inside_forward kind forward) t (suc at) o gs × Way forward w continuation (offset_behind new t.offset) (mixed 0 low high t.groups gs)
+        × (forward ≡ true → room last Forward (offset_behind new t.offset) ≤ room last Forward o)
+
+    walk-into : (frames : List Frame) → Goes start frames forward at o gs → (nests : Bool) → AreLoopFree h program nests at low high continuation → ((w : Whole) → Way forward w at o gs → Into w)
+        → Goes start (new ∷ frames) (inside_forward kind forward) (suc at) o gs × (left (new ∷ frames) (suc at) o < left frames at o)
+    walk-into frames walks nests free into = by_frames frames walks
+      where
+        inside-now : IsInside h program continuation (suc at) gs gs
+        inside-now = record { look = at; first = low; last = high; nests = nests; free = free; after = omega arith; ahead = free.some; kept = (refl, λ k out. refl) }
+
+        ahead-new : (kind : Submatch) → IsAhead last (frame continuation o forward (returns kind)) (inside_forward kind forward) o
+        ahead-new (lookaround negated backward) away = absurd (cc away)
+        ahead-new atomic away = (refl, λ is. omega arith)
+
+        by_base : forward ≡ true → (w : Whole) → Way forward w at o gs → EndsIn program (input_of v) start (Some w)
+            → Goes start (new ∷ []) (inside_forward kind forward) (suc at) o gs × (left (new ∷ []) (suc at) o < left [] at o)
+        by_base is w way ends =
+            let (t, inner, outer, on) = into w way in
+            let ranks = free.ranks in
+            let some = free.some in (
+              (t, gs, inner, inside-now, ahead-new kind, (is, (w, subst (λ b. IsOnWay flow h program v (direction_of b) w continuation (offset_behind new t.offset) (mixed 0 low high t.groups gs)) is outer, ends))),
+              omega (arith, ranks, some),
+            )
+
+        by_frames : (frames : List Frame) → Goes start frames forward at o gs
+            → Goes start (new ∷ frames) (inside_forward kind forward) (suc at) o gs × (left (new ∷ frames) (suc at) o < left frames at o)
+        by_frames [] (is, (w, way, ends)) = by_base is w (subst (λ b. IsOnWay flow h program v (direction_of b) w at o gs) (sym is) way) ends
+        by_frames (f ∷ fs) (w, before, way, inside, ahead, rest) =
+            let (t, inner, outer, on) = into w way in
+            let leads = inside.free.leads at (code.submatch kind low high continuation) inside.after inside.ahead here in
+            let within = fits-inside inside.nests kind at low high continuation inside.first inside.last f.continuation leads in
+            let (less, from, to) = within in
+            let some = free.some in
+            let after = inside.after in
+            let still : IsInside h program f.continuation continuation (mixed 0 low high t.groups gs) before = record {
+              look = inside.look;
+              first = inside.first;
+              last = inside.last;
+              nests = inside.nests;
+              free = inside.free;
+              after = omega (arith, after, some);
+              ahead = less;
+              kept = (
+                mixed-length low high 0 t.groups gs ∙ inside.kept.0,
+                λ k out. mixed-outside low high 0 k t.groups gs (λ x y. out (omega (arith, x, from)) (omega (arith, y, to))) ∙ inside.kept.1 k out,
+              );
+            } in
+            let nearby : IsAhead last f forward (offset_behind new t.offset) =
+            λ away. ((ahead away).0, λ is. let far-off = (ahead away).1 is in let step = on ((ahead away).0 ∙ is) in omega (arith, far-off, step)) in (
+              (t, gs, inner, inside-now, ahead-new kind, (w, before, outer, still, nearby, rest)),
+              omega (arith, less, some),
+            )
+
+  -- Where contents end the walk goes on behind them, and comes nearer.
+  walk-out : (start : ℕ) (f : Frame) (fs : List Frame) (forward : Bool) (at o : ℕ) (gs : List Marks) → Goes start (f ∷ fs) forward at o gs → Stands program at code.goal
+      → Goes start fs f.forward f.continuation (offset_behind f o) gs × (left fs f.continuation (offset_behind f o) < left (f ∷ fs) at o)
+  walk-out start f fs forward at o gs (w, before, way, inside, ahead, rest) here =
+      let dir = direction_of forward in
+      let same = at-goal flow h v all program suits may.pass dir (told_by a) Anywhere (right dir) (past dir) w at o gs way tt gs here in
+      let groups : w.groups ≡ gs = ap (λ (u : Whole). u.groups) same in
+      let offset : w.offset ≡ o = ap (λ (u : Whole). u.offset) same in
+      let on : Goes start fs f.forward f.continuation (offset_behind f o) gs =
+      subst (λ q. Goes start fs f.forward f.continuation (offset_behind f q) gs) offset
+      (subst (Goes start fs f.forward f.continuation (offset_behind f w.offset))
+      (ap (λ ms. mixed 0 inside.first inside.last ms before) groups
+      ∙ mixed-same inside.first inside.last 0 gs before inside.kept.0 (λ k out. inside.kept.1 k (λ low high. out (omega (arith, low)) (omega (arith, high))))) rest) in
+      let within = inside.ahead in
+      let less = behind-less fs on in
+      (on, omega (arith, within, less))
+    where
+      by_returns : (b : Bool) → f.returns ≡ b → f.forward ≡ true → room last Forward (if b then f.offset else o) * length h.order ≤ room last Forward f.offset * length h.order
+      by_returns true e is = omega arith
+      by_returns false e is = mul-le (room last Forward o) (length h.order) (room last Forward f.offset) (length h.order) ((ahead e).1 is) (omega arith)
+
+      behind-less : (fs : List Frame) → Goes start fs f.forward f.continuation (offset_behind f o) gs → left fs f.continuation (offset_behind f o) ≤ left fs f.continuation f.offset
+      behind-less [] (is, (w', way', ends)) = let less = by_returns f.returns refl is in omega (arith, less)
+      behind-less (g ∷ gs') walks = omega arith
+
+  -- So it goes on until it has come to its end.
+  pub walk-goes : (start : ℕ) (frames : List Frame) (forward : Bool) (at o : ℕ) (gs hs : List Marks) → Goes start frames forward at o gs → (i : Instruction) → Stands program at i → (y : Walk)
+      → goes i (led (told_by a) program (input_of v) (direction_of forward) hs i at o) (record { at = at; offset = o; forward = forward; frames = frames }) ≡ Some y
+      → Goes start y.frames y.forward y.at y.offset (marked (direction_of forward) i o gs) × (left y.frames y.at y.offset < left frames at o)
+  walk-goes start frames forward at o gs hs walks i here y e = by_led (led (told_by a) program (input_of v) (direction_of forward) hs i at o) refl e
+    where
+      now : Walk
+      now = record { at = at; offset = o; forward = forward; frames = frames }
+
+      Further : Walk → Type 0
+      Further z = Goes start z.frames z.forward z.at z.offset (marked (direction_of forward) i o gs) × (left z.frames z.at z.offset < left frames at o)
+
+      dir : Direction
+      dir = direction_of forward
+
+      into : (i : Instruction) → Stands program at i → is_entered i ≡ true → Goes start (entered i now).frames (entered i now).forward (entered i now).at (entered i now).offset (marked dir i o gs)
+          × (left (entered i now).frames (entered i now).at (entered i now).offset < left frames at o)
+      into (code.submatch (lookaround false backward) low high continuation) there is =
+          walk-into start forward at o gs (lookaround false backward) low high continuation there frames walks true
+          (may.pass.leaves at low high continuation (lookaround false backward) there (ltb-true low high is)) (λ w way.
+          let (t, inner, outer, anywhere) = look-into flow h v all program suits may.pass dir (told_by a) Anywhere (right dir) (past dir) w at o gs way tt gs backward low high continuation there in
+          (t, inner, outer, λ e. omega arith))
+      into (code.submatch (lookaround true backward) low high continuation) there is = absurd (cc is)
+      into (code.submatch atomic low high continuation) there is =
+          walk-into start forward at o gs atomic low high continuation there frames walks false (may.pass.leaves at low high continuation atomic there) (λ w way.
+          let (t, inner, outer, further) = atomic-into flow h v all program suits may.pass dir (told_by a) Anywhere (right dir) (past dir) w at o gs way tt gs low high continuation there in
+          (t, inner, outer, onward-offset forward o t.offset further))
+      into j there is = absurd (cc is)
+
+      on : (x : Station) → led (told_by a) program (input_of v) (direction_of forward) hs i at o ≡ Some x → (b : Bool) → is_entered i ≡ b
+          → Further (if b then entered i now else record now { at = x.at; offset = x.offset })
+      on x is true some = into i here some
+      on x is false none = walk-on start frames forward at o gs hs walks i here none x is
+
+      out : (frames : List Frame) → Goes start frames forward at o gs → i ≡ code.goal → elim frames [
+        | [] ↦ None
+        | f ∷ fs ↦ Some (record { at = f.continuation; offset = offset_behind f o; forward = f.forward; frames = fs })
+      ] ≡ Some y → Goes start y.frames y.forward y.at y.offset (marked (direction_of forward) i o gs) × (left y.frames y.at y.offset < left frames at o)
+      out [] walks' is none = absurd (cc none)
+      out (f ∷ fs) walks' is some =
+          let behind : Walk = record { at = f.continuation; offset = offset_behind f o; forward = f.forward; frames = fs } in
+          let same : behind ≡ y = walk-is behind y some in
+          subst (λ (z : Walk). Goes start z.frames z.forward z.at z.offset (marked (direction_of forward) i o gs) × (left z.frames z.at z.offset < left (f ∷ fs) at o)) same
+          (subst (λ j. Goes start fs f.forward f.continuation (offset_behind f o) (marked (direction_of forward) j o gs) × (left fs f.continuation (offset_behind f o) < left (f ∷ fs) at o)) (sym is)
+          (walk-out start f fs forward at o gs walks' (subst (Stands program at) is here)))
+
+      by_led : (l : Option Station) → led (told_by a) program (input_of v) (direction_of forward) hs i at o ≡ l → goes i l now ≡ Some y → Further y
+      by_led (Some x) is some =
+          let next : Walk = if is_entered i then entered i now else record now { at = x.at; offset = x.offset } in
+          subst (λ (z : Walk). Further z) (walk-is next y some)
+          (on x is (is_entered i) refl)
+      by_led None is none =
+          let (w, way) = walk-way start frames forward at o gs walks in
+          out frames walks (ends-way flow h v all program suits may.pass (direction_of forward) (told_by a) Anywhere (right (direction_of forward)) (past (direction_of forward)) w at o gs way tt hs i here is) none
+
+  -- There the run has its answer.
+  pub walk-ends : (start : ℕ) (frames : List Frame) (forward : Bool) (at o : ℕ) (gs hs : List Marks) → Goes start frames forward at o gs → (i : Instruction) → Stands program at i
+      → goes i (led (told_by a) program (input_of v) (direction_of forward) hs i at o) (record { at = at; offset = o; forward = forward; frames = frames }) ≡ None
+      → IsAnswer program (input_of v) start (Some o) (marked (direction_of forward) i o gs)
+  walk-ends start (f ∷ fs) forward at o gs hs walks i here e = by_led (led (told_by a) program (input_of v) (direction_of forward) hs i at o) e
+    where
+      by_led : (l : Option Station) → goes i l (record { at = at; offset = o; forward = forward; frames = f ∷ fs }) ≡ None
+          → IsAnswer program (input_of v) start (Some o) (marked (direction_of forward) i o gs)
+      by_led None none = absurd (cc none)
+      by_led (Some x) none = absurd (cc none)
+  walk-ends start [] false at o gs hs (is, (w, way, ends)) i here e = absurd (cc is)
+  walk-ends start [] true at o gs hs (is, (w, way, ends)) i here e = by_led (led (told_by a) program (input_of v) Forward hs i at o) refl e
+    where
+      by_led : (l : Option Station) → led (told_by a) program (input_of v) Forward hs i at o ≡ l → goes i l (record { at = at; offset = o; forward = true; frames = [] }) ≡ None
+          → IsAnswer program (input_of v) start (Some o) (marked Forward i o gs)
+      by_led (Some x) led-is none = absurd (cc none)
+      by_led None led-is none =
+          let goal = ends-way flow h v all program suits may.pass Forward (told_by a) Anywhere (right Forward) (past Forward) w at o gs way tt hs i here led-is in
+          let same = at-goal flow h v all program suits may.pass Forward (told_by a) Anywhere (right Forward) (past Forward) w at o gs way tt hs (subst (Stands program at) goal here) in
+          subst (λ j. IsAnswer program (input_of v) start (Some o) (marked Forward j o gs)) (sym goal)
+          (w, ends, ap (λ (u : Whole). u.offset) same, ap (λ (u : Whole). u.groups) same)
+
+  -- so far it has come at least
+  pub end-left : (frames : List Frame) (forward : Bool) (at o : ℕ) (i : Instruction) (l : Option Station) → goes i l (record { at = at; offset = o; forward = forward; frames = frames }) ≡ None
+      → room (length v.units) Forward o * length h.order ≤ left frames at o
+  end-left [] forward at o i l e = omega arith
+  end-left (f ∷ fs) forward at o i None e = absurd (cc e)
+  end-left (f ∷ fs) forward at o i (Some x) e = absurd (cc e)
+
+  -- what is told of the exits of a one-character loop that stands there is so
+  pub walk-exits : (start : ℕ) (frames : List Frame) (forward : Bool) (at o : ℕ) (gs hs : List Marks) → Goes start frames forward at o gs → (i : Instruction) → Stands program at i
+      → (j : Instruction) → is_single i ≡ true → Stands program (at + 1) j → AreExitsTold program v (direction_of forward) hs a j at (at + 2)
+  walk-exits start (f ∷ fs) forward at o gs hs (w, before, way, inside, ahead, rest) i here j single stands =
+      absurd (never i (inside.free.leads at i inside.after inside.ahead here) single)
+    where
+      never : (i : Instruction) → leads_through inside.nests inside.first inside.last f.continuation at i ≡ true → is_single i ≡ true → ⊥
+      never (code.single_loop least most greedy) leads is = cc leads
+      never _ leads is = cc is
+  walk-exits start [] false at o gs hs (is, (w, way, ends)) i here j single stands = absurd (cc is)
+  walk-exits start [] true at o gs hs (is, (w, way, ends)) i here j single stands = by_kind i here single
+    where
+      by_way : (b : Bool) → direction_of b ≡ Forward → b ≡ true
+      by_way true e = refl
+      by_way false e = absurd (cc e)
+
+      read-forward : forward_at h at ≡ true
+      read-forward = by_way (forward_at h at) way.running.way
+
+      by_kind : (i : Instruction) → Stands program at i → is_single i ≡ true → AreExitsTold program v Forward hs a j at (at + 2)
+      by_kind (code.single_loop least most greedy) there e =
+          let (k, there', takes, order) = suits.closed at (code.single_loop least most greedy) there in
+          let one : at + 1 ≡ suc at = omega arith in
+          let same : k ≡ j = one_stands program (input_of v) (suc at) k j there' (subst (λ b. Stands program b j) one stands) in
+          exits-told-of flow h program v a at (λ q lies. may.exits at q way.there read-forward lies) all true read-forward least most greedy j there (ap takes_character (sym same) ∙ takes) stands hs
+      by_kind _ there e = absurd (cc e)
+
+  -- at its begin it is on its way
+  pub walk-begins : (start : ℕ) → IsAtPlace (reading_of v) start → ReadsAlong program v Forward (first_state program start ∷ []) → told_by a 0 start ≡ true
+      → Goes start [] true 0 start (first_state program start).groups
+  walk-begins start place reads has = (refl, by_end (told-there flow h v all program suits may.pass Forward (told_by a) Anywhere (right Forward) (past Forward) s live (may.there, place-lies v all start place) tt s.loops s.groups live reads))
+    where
+      s : Whole
+      s = first_state program start
+
+      live : AreRunning flow (ranking_of h) program (length v.units) Forward s
+      live = running-first flow (ranking_of h) v all program suits may.pass.closed may.pass.ranked may.calm may.forward may.silent start
+
+      by_end : Ends program (input_of v) Forward (s ∷ []) (told_by a 0 start)
+          → (w : Whole) × IsOnWay flow h program v Forward w 0 start s.groups × EndsIn program (input_of v) start (Some w)
+      by_end (n, None, run, some) = absurd (cc (some, has))
+      by_end (n, Some w, run, some) = (
+        w,
+        record { loops = s.loops; steps = n; running = live; there = may.there; within = place-lies v all start place; reads = reads; run = run },
+        (n, run),
+      )
+
+  -- what stands there may be asked
+  pub walk-ready : (start : ℕ) (frames : List Frame) (forward : Bool) (at o : ℕ) (gs hs : List Marks) → Goes start frames forward at o gs → length hs ≡ program.groups → (i : Instruction) → Stands program at i
+      → (is_simple i ≡ true → IsReady program v i hs o) × (reads_character i ≡ true → IsAtPlace (reading_of v) o)
+  walk-ready start frames forward at o gs hs walks count i here =
+      let dir = direction_of forward in
+      let (w, way) = walk-way start frames forward at o gs walks in (
+        ready-here flow h v all program suits may.pass dir (told_by a) Anywhere (right dir) (past dir) w at o gs way tt hs count i here,
+        place-here flow h v all program suits may.pass dir (told_by a) Anywhere (right dir) (past dir) w at o gs way tt hs i here,
+      )

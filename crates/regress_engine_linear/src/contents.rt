@@ -1,0 +1,203 @@
+//! The test that a way through the contents of lookarounds is as short as they are.
+ghost use Rattle.std.specs.Prelude.{◌≡◌, ◌&&◌, suc, ◌+◌, ◌-◌, ◌^◌, ◌<◌, length, map, nat_le, nat_lt};
+ghost use Rattle.regress_engine_insn.specs.Instructions.{Program};
+ghost use Rattle.regress_engine_insn.specs.InsnViews.{instruction};
+ghost use Rattle.regress_engine_memory.specs.Passing.{all_pass};
+ghost use Rattle.regress_engine_linear.specs.Linear.{leads_through};
+ghost use Rattle.regress_engine_linear.specs.LinearTests.{are_loop_free, leads_inside, leaves_groups};
+ghost use Rattle.regress_engine_linear.specs.RankTables.{heights_of, rank_at};
+
+use crate::ranks::RankTable;
+use regress_engine_insn::Insn;
+
+/// The contents of a lookaround or an atomic group: they stand between two addresses, and groups from the first up to before the last are
+/// inside.
+#[derive(Debug, Clone, Copy)]
+struct Passage {
+    /// The address before them.
+    at: usize,
+    /// The first group inside.
+    first: usize,
+    /// The group behind the last one inside.
+    last: usize,
+    /// The address behind them.
+    end: usize,
+    /// Whether an atomic group may stand inside.
+    nests: bool,
+}
+
+impl Passage {
+    /// Whether an address lies further than another, and inside.
+    fn is_on(&self, from: usize, to: usize) -> bool
+        ensures { result ≡ (nat_lt from to && nat_lt to self.now.end) }
+    {
+        from < to && to < self.end
+    }
+
+    /// Whether a group is inside.
+    fn holds(&self, group: usize) -> bool
+        ensures { result ≡ (nat_le self.now.first group && nat_lt group self.now.last) }
+    {
+        self.first <= group && group < self.last
+    }
+
+    /// Whether all groups from the first up to before the last are.
+    fn holds_all(&self, first: usize, last: usize) -> bool
+        ensures { result ≡ (nat_le self.now.first first && nat_le last self.now.last) }
+    {
+        self.first <= first && last <= self.last
+    }
+
+    /// Whether what is matched by itself lies inside, from an address on up to another, with its groups.
+    fn holds_inside(&self, at: usize, first: usize, last: usize, continuation: usize) -> bool
+        requires { at + 1 < 2 ^ 64 }
+        ensures { result ≡ (nat_lt (suc at) self.now.end && ((nat_lt at continuation && nat_lt continuation self.now.end)
+            && (nat_le self.now.first first && nat_le last self.now.last))) }
+    {
+        at + 1 < self.end && (self.is_on(at, continuation) && self.holds_all(first, last))
+    }
+
+    /// Whether an instruction at an address inside is no repetition, leads further and not past the end, and writes groups inside alone.
+    fn leads_through(&self, at: usize, insn: &Insn) -> bool
+        requires { at + 1 < 2 ^ 64 }
+        ensures { result ≡ leads_through self.now.nests self.now.first self.now.last self.now.end at (instruction insn.now) }
+    {
+        match insn {
+            Insn::Goal | Insn::JustFail => true,
+            Insn::BackRef { .. }
+            | Insn::EnterLoop(_)
+            | Insn::LoopAgain { .. }
+            | Insn::Loop1CharBody { .. } => false,
+            Insn::Jump { target } => self.is_on(at, *target as usize),
+            Insn::Alt { secondary } => at + 1 < self.end && self.is_on(at, *secondary as usize),
+            Insn::BeginCaptureGroup(group)
+            | Insn::EndCaptureGroup(group)
+            | Insn::ResetCaptureGroup(group) => at + 1 < self.end && self.holds(*group as usize),
+            Insn::Lookahead {
+                start_group,
+                end_group,
+                continuation,
+                ..
+            }
+            | Insn::Lookbehind {
+                start_group,
+                end_group,
+                continuation,
+                ..
+            } => self.holds_inside(
+                at,
+                *start_group as usize,
+                *end_group as usize,
+                *continuation as usize,
+            ),
+            Insn::Atomic {
+                start_group,
+                end_group,
+                continuation,
+            } => {
+                self.nests
+                    && self.holds_inside(
+                        at,
+                        *start_group as usize,
+                        *end_group as usize,
+                        *continuation as usize,
+                    )
+            }
+            _ => at + 1 < self.end,
+        }
+    }
+
+    /// Whether each instruction inside does.
+    fn lead_through(&self, insns: &[Insn]) -> bool
+        requires { self.now.at < length insns.now }
+        ensures { (program : Program) → program.instructions ≡ map instruction insns.now
+            → result ≡ all_pass (leads_inside self.now.nests self.now.at self.now.first self.now.last self.now.end) 0 program.instructions }
+    {
+        for at in self.at + 1..self.end.min(insns.len()) {
+            if !self.leads_through(at, &insns[at]) {
+                return false;
+            }
+        }
+        true
+    }
+}
+
+impl RankTable {
+    /// Whether as many ranks lie between where contents stand and what is behind them as they have instructions.
+    fn have_ranks(&self, passage: &Passage) -> bool
+        requires { passage.now.at < passage.now.end }
+        ensures { result ≡ nat_le (rank_at (heights_of self.now) passage.now.end + (passage.now.end - passage.now.at)) (rank_at (heights_of self.now) passage.now.at) }
+    {
+        let low = self.rank(passage.end);
+        let high = self.rank(passage.at);
+        low <= high && passage.end - passage.at <= high - low
+    }
+
+    /// Whether contents have no loop, and ranks enough.
+    fn are_loop_free(&self, passage: &Passage, insns: &[Insn]) -> bool
+        requires { passage.now.at < length insns.now }
+        ensures { (program : Program) → program.instructions ≡ map instruction insns.now
+            → result ≡ are_loop_free (heights_of self.now) program passage.now.nests passage.now.at passage.now.first passage.now.last passage.now.end }
+    {
+        passage.at + 1 < passage.end && self.have_ranks(passage) && passage.lead_through(insns)
+    }
+
+    /// Whether what a lookaround or an atomic group at an address leaves is as it has to be: its contents have no loop, if they are gone through.
+    fn leaves_groups(&self, insns: &[Insn], at: usize, insn: &Insn) -> bool
+        requires { at < length insns.now }
+        ensures { (program : Program) → program.instructions ≡ map instruction insns.now
+            → result ≡ leaves_groups (heights_of self.now) program at (instruction insn.now) }
+    {
+        match insn {
+            Insn::Lookahead {
+                negate: false,
+                start_group,
+                end_group,
+                continuation,
+            }
+            | Insn::Lookbehind {
+                negate: false,
+                start_group,
+                end_group,
+                continuation,
+            } => {
+                let passage = Passage {
+                    at,
+                    first: *start_group as usize,
+                    last: *end_group as usize,
+                    end: *continuation as usize,
+                    nests: true,
+                };
+                passage.last <= passage.first || self.are_loop_free(&passage, insns)
+            }
+            Insn::Atomic {
+                start_group,
+                end_group,
+                continuation,
+            } => {
+                let passage = Passage {
+                    at,
+                    first: *start_group as usize,
+                    last: *end_group as usize,
+                    end: *continuation as usize,
+                    nests: false,
+                };
+                self.are_loop_free(&passage, insns)
+            }
+            _ => true,
+        }
+    }
+
+    /// Whether what each of them leaves is.
+    pub(crate) fn leave_groups(&self, insns: &[Insn]) -> bool
+        ensures { (program : Program) → program.instructions ≡ map instruction insns.now
+            → result ≡ all_pass (leaves_groups (heights_of self.now) program) 0 program.instructions }
+    {
+        for at in 0..insns.len() {
+            if !self.leaves_groups(insns, at, &insns[at]) {
+                return false;
+            }
+        }
+        true
+    }
+}
