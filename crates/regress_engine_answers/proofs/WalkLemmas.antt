@@ -130,8 +130,6 @@ written-fits program at (code.end_group j) k fits e = let same : j ≡ k = cc in
 written-fits program at (code.reset_group j) k fits e = let same : j ≡ k = cc in subst (λ n. n < program.groups) same fits
 written-fits program at _ k fits e = absurd (cc e)
 
--- ---- where a run goes on
-
 module _ (flow : Flow) (h : Heights) (v : View) (all : AreOfKind v.kind v.units) (program : Program) (suits : Suits program v) (may : MayPass flow h program v) where
   -- where the contents of an atomic group end: no further back, and in the text
   pub atomic-ends : (dir : Direction) (at o low high continuation : ℕ) (loops : List (ℕ × ℕ)) (groups : List Marks) → AreRunning flow (ranking_of h) program (length v.units) dir (whole at o loops groups)

@@ -63,10 +63,7 @@ loop-offset-preserved g c =
     record {
       last = known.last;
       step = omega (arith, less);
-      counted =
-          let before = known.counted in
-          let more = c.in_ok-fill_next.ensures.counted in
-          omega (arith, before, more);
+      counted = let before = known.counted in let more = c.in_ok-fill_next.ensures.counted in omega (arith, before, more);
       sized = c.in_ok-fill_next.ensures.sized;
       filled = next-offset flow h v all program c.requires.suits c.requires.linear c.requires.short c.fill_next.new.answers c.args.forward (offset_of c.args.forward last step)
           (offset_of c.args.forward last (step + 1)) low behind
