@@ -1,11 +1,13 @@
 //! One-character loops.
-ghost use Rattle.std.specs.Prelude.{◌≡◌, ◌+◌, ◌≤◌, true, IfOk, OnOk};
+ghost use Rattle.std.specs.Prelude.{◌≡◌, ◌⊎◌, ◌+◌, ◌^◌, ◌<◌, ◌≤◌, true, IfOk, OnOk};
 ghost use Rattle.regress_engine_insn.specs.Instructions.{Stands, goal, single_loop};
+ghost use Rattle.regress_engine_insn.specs.InsnViews.{instruction};
 ghost use Rattle.regress_engine_code.specs.Standing.{program_of};
 ghost use Rattle.regress_engine_search.specs.Ready.{IsBody};
 ghost use Rattle.regress_engine_search.specs.Search.{Suits};
 ghost use Rattle.regress_engine_undo.specs.Held.{held};
 ghost use Rattle.regress_engine_attempt.specs.Attempts.{world};
+ghost use Rattle.regress_engine_attempt.specs.Loops.{Spares};
 ghost use Rattle.regress_engine_trying.specs.Passing.{Passes};
 ghost use Rattle.regress_engine_trying.specs.Trying.{Does, IsHeldIn};
 
@@ -27,8 +29,54 @@ impl<'a, Input: ExecutorInput> Attempt<'a, Input> {
         matches!(self.program.insns().get(at), Some(Insn::Goal))
     }
 
-    /// Does a one-character loop: goes on at one of its ways, and later at the others. It answers whether there is any.
-    pub(crate) fn repeat(
+    /// Whether a one-character loop at an address gives nothing back, read forward: as is known of the program, or since a goal stands behind it.
+    #[inline(always)]
+    fn spares(&self, at: usize) -> bool
+        requires suits { Suits (program_of self.now.program.now) (Input.view self.now.input) }
+        requires room { at + 2 < 2 ^ 64 }
+        ensures { result ≡ true → Spares (program_of self.now.program.now) (Input.view self.now.input) at }
+    {
+        is_possessive(self.program, at) || self.is_goal(at + 2)
+    }
+
+    /// Does a greedy one-character loop that may take nothing and gives nothing back, read forward. It is apart, with no room for what others need.
+    #[inline(never)]
+    fn repeat_all(
+        &self,
+        insn: &Insn,
+        most: usize,
+        counts: &mut Counts,
+        memory: &Memory,
+        spot: &mut Spot,
+    )
+        requires suits { Suits (program_of self.now.program.now) (Input.view self.now.input) }
+        requires sound { IsHeldIn (world Input.view self.now) (held memory.now) }
+        requires stands { Stands (program_of self.now.program.now) (spot.old.at + 1) (instruction insn.now) }
+        requires body { IsBody (program_of self.now.program.now) (Input.view self.now.input) (spot.old.at + 2) spot.old.offset }
+        requires spares { Spares (program_of self.now.program.now) (Input.view self.now.input) spot.old.at }
+        requires forward { spot.old.forward ≡ true }
+        requires room { spot.old.at + 2 < 2 ^ 64 }
+        ensures leads { Does (world Input.view self.now) (single_loop 0 most true) spot.old (held memory.now) spot.new (held memory.now) true }
+        ensures counted { Passes (Input.view self.now.input) 1 counts.old.more counts.new.more }
+    {
+        let near = spot.offset;
+        let far = as_far(
+            self.program,
+            &self.input,
+            insn,
+            most,
+            true,
+            &memory.groups,
+            near,
+        );
+        counts.pass(near, far);
+        counts.spare = counts.spare.saturating_sub(far.abs_diff(near) / 8);
+        spot.at += 2;
+        spot.offset = far;
+    }
+
+    /// Does any one-character loop, as `repeat` does.
+    fn repeat_ways(
         &self,
         least: usize,
         most: usize,
@@ -77,7 +125,7 @@ impl<'a, Input: ExecutorInput> Attempt<'a, Input> {
                 spot.offset = far;
                 return Ok(true);
             }
-            if self.is_goal(at) {
+            if near == far || self.is_goal(at) {
                 spot.at = at;
                 spot.offset = far;
                 return Ok(true);
@@ -87,5 +135,32 @@ impl<'a, Input: ExecutorInput> Attempt<'a, Input> {
         }
         let going = self.take_on(at, spot.offset, near, left, counts, memory, spot)?;
         Ok(going)
+    }
+
+    /// Does a one-character loop: goes on at one of its ways, and later at the others. It answers whether there is any.
+    #[inline(always)]
+    pub(crate) fn repeat(
+        &self,
+        least: usize,
+        most: usize,
+        greedy: bool,
+        counts: &mut Counts,
+        memory: &mut Memory,
+        spot: &mut Spot,
+    ) -> Result<bool, AllocError>
+        requires suits { Suits (program_of self.now.program.now) (Input.view self.now.input) }
+        requires sound { IsHeldIn (world Input.view self.now) (held memory.old) }
+        requires order { least ≤ most }
+        requires body { IsBody (program_of self.now.program.now) (Input.view self.now.input) (spot.old.at + 2) spot.old.offset }
+        ensures leads { IfOk result (Does (world Input.view self.now) (single_loop least most greedy) spot.old (held memory.old) spot.new (held memory.new)) }
+        ensures sound { OnOk result (IsHeldIn (world Input.view self.now) (held memory.new)) }
+        ensures counted { OnOk result (Passes (Input.view self.now.input) 1 counts.old.more counts.new.more) }
+    {
+        let insn = self.instruction(spot.at + 1);
+        if greedy && least == 0 && spot.forward && self.spares(spot.at) {
+            self.repeat_all(insn, most, counts, memory, spot);
+            return Ok(true);
+        }
+        self.repeat_ways(least, most, greedy, counts, memory, spot)
     }
 }

@@ -3,12 +3,8 @@ ghost use Rattle.std.specs.Prelude.{◌≡◌, ◌+◌, ◌^◌, ◌<◌, true, 
 ghost use Rattle.regress_engine_insn.specs.Instructions.{Instruction, Stands, loop_again};
 ghost use Rattle.regress_engine_insn.specs.InsnViews.{instruction};
 ghost use Rattle.regress_engine_code.specs.Standing.{program_of};
-ghost use Rattle.regress_engine_input.specs.Views.{direction_of};
-ghost use Rattle.regress_engine_runs.specs.UndoStack.{frame};
 ghost use Rattle.regress_engine_search.specs.Ready.{is_simple};
-ghost use Rattle.regress_engine_undo.specs.Held.{held, pushed};
-ghost use Rattle.regress_engine_search.specs.Submatches.{submatch_of, reads_forward};
-ghost use Rattle.regress_engine_search.specs.declared.submatch.Submatch.TheVariants.{Lookaround, Atomic};
+ghost use Rattle.regress_engine_undo.specs.Held.{held};
 ghost use Rattle.regress_engine_search.specs.Search.{Suits};
 ghost use Rattle.regress_engine_attempt.specs.Attempts.{world};
 ghost use Rattle.regress_engine_trying.specs.Passing.{Passes};
@@ -18,61 +14,10 @@ use crate::attempt::Attempt;
 use crate::counts::Counts;
 use regress_engine_advance::{advance, is_dead, units_ahead};
 use regress_engine_insn::Insn;
-use regress_engine_search::{ExecutorInput, Submatch};
+use regress_engine_search::ExecutorInput;
 use regress_engine_undo::{Memory, Spot, begun, ended};
-use regress_front_core::{CaptureGroupID, GroupData};
+use regress_front_core::GroupData;
 use std::alloc::AllocError;
-
-/// Begins to try the contents of a lookaround. It is apart so that no step makes room for it.
-#[inline(never)]
-fn begin_around(
-    negated: bool,
-    backward: bool,
-    first: CaptureGroupID,
-    last: CaptureGroupID,
-    continuation: usize,
-    memory: &mut Memory,
-    spot: &mut Spot,
-) -> Result<(), AllocError>
-    requires { spot.old.at + 1 < 2 ^ 64 }
-    ensures pushed { OnOk result (held memory.new ≡ pushed (frame (record {
-      kind = submatch_of (Lookaround negated backward);
-      first = first;
-      last = last;
-      continuation = continuation;
-      at = spot.old.at;
-      offset = spot.old.offset;
-      outside = direction_of spot.old.forward;
-    })) (held memory.old)) }
-    ensures spot { OnOk result (spot.new ≡ record spot.old { at = spot.old.at + 1; forward = reads_forward (submatch_of (Lookaround negated backward)) spot.old.forward }) }
-{
-    let kind = Submatch::Lookaround { negated, backward };
-    memory.begin_submatch(kind, first, last, continuation, spot)
-}
-
-/// Begins to try the contents of an atomic group. It is apart so that no step makes room for it.
-#[inline(never)]
-fn begin_atomic(
-    first: CaptureGroupID,
-    last: CaptureGroupID,
-    continuation: usize,
-    memory: &mut Memory,
-    spot: &mut Spot,
-) -> Result<(), AllocError>
-    requires { spot.old.at + 1 < 2 ^ 64 }
-    ensures pushed { OnOk result (held memory.new ≡ pushed (frame (record {
-      kind = submatch_of Atomic;
-      first = first;
-      last = last;
-      continuation = continuation;
-      at = spot.old.at;
-      offset = spot.old.offset;
-      outside = direction_of spot.old.forward;
-    })) (held memory.old)) }
-    ensures spot { OnOk result (spot.new ≡ record spot.old { at = spot.old.at + 1; forward = reads_forward (submatch_of Atomic) spot.old.forward }) }
-{
-    memory.begin_submatch(Submatch::Atomic, first, last, continuation, spot)
-}
 
 impl<'a, Input: ExecutorInput> Attempt<'a, Input> {
     /// Does an instruction that changes nothing but the offset, and answers whether it leads anywhere.
@@ -193,10 +138,7 @@ impl<'a, Input: ExecutorInput> Attempt<'a, Input> {
                 let going = memory.enter(repetition, repetition.surplus(ahead), dead, spot)?;
                 Ok(Some(going))
             }
-            Insn::LoopAgain { begin } => {
-                let going = self.again(*begin as usize, memory, spot)?;
-                Ok(Some(going))
-            }
+            Insn::LoopAgain { begin } => { Ok(Some(self.again(*begin as usize, memory, spot)?)) }
             Insn::Loop1CharBody {
                 min_iters,
                 max_iters,
@@ -212,15 +154,7 @@ impl<'a, Input: ExecutorInput> Attempt<'a, Input> {
                 continuation,
             } => {
                 let target = *continuation as usize;
-                begin_around(
-                    *negate,
-                    false,
-                    *start_group,
-                    *end_group,
-                    target,
-                    memory,
-                    spot,
-                )?;
+                memory.begin_around(*negate, false, *start_group, *end_group, target, spot)?;
                 Ok(Some(true))
             }
             Insn::Lookbehind {
@@ -230,15 +164,7 @@ impl<'a, Input: ExecutorInput> Attempt<'a, Input> {
                 continuation,
             } => {
                 let target = *continuation as usize;
-                begin_around(
-                    *negate,
-                    true,
-                    *start_group,
-                    *end_group,
-                    target,
-                    memory,
-                    spot,
-                )?;
+                memory.begin_around(*negate, true, *start_group, *end_group, target, spot)?;
                 Ok(Some(true))
             }
             Insn::Atomic {
@@ -246,16 +172,14 @@ impl<'a, Input: ExecutorInput> Attempt<'a, Input> {
                 end_group,
                 continuation,
             } => {
-                let target = *continuation as usize;
-                begin_atomic(*start_group, *end_group, target, memory, spot)?;
+                memory.begin_atomic(*start_group, *end_group, *continuation as usize, spot)?;
                 Ok(Some(true))
             }
             _ => {
                 if let Insn::BackRef { group, .. } = insn {
                     self.count_reference(*group as usize, memory, counts);
                 }
-                let going = self.take(insn, memory, spot);
-                Ok(Some(going))
+                Ok(Some(self.take(insn, memory, spot)))
             }
         }
     }

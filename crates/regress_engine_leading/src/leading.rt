@@ -68,7 +68,7 @@ fn passed_taken<Input: CharInput>(
 
 /// How far no run has an answer, where the program has a class at an address and then a loop of a class: up to where that
 /// stops, where no match can be reached from any of its ends; where it has no such loop, what `passed_taken` tells.
-#[inline(always)]
+#[inline(never)]
 fn passed_from<Input: CharInput>(
     program: &CompiledRegex,
     input: &Input,
@@ -160,7 +160,7 @@ fn at_word<Input: CharInput>(
 
 /// How far from the start on no line begins, where the program asks for that first; `None` where one begins there, and
 /// something may be led to.
-#[inline(always)]
+#[inline(never)]
 fn passed_line<Input: CharInput>(
     program: &CompiledRegex,
     input: &Input,
@@ -273,7 +273,7 @@ fn behind_dead<Input: CharInput>(
 
 /// How far from the start on each character begins with a byte in UTF-8 with which no match may begin, or where the program asks
 /// for the begin or end of a word is one of ASCII that is neither.
-#[inline(always)]
+#[inline(never)]
 fn passed_leads<Input: CharInput>(
     program: &CompiledRegex,
     input: &Input,

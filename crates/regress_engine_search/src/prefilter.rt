@@ -1,7 +1,7 @@
 //! Where a search may go next.
-ghost use Rattle.std.specs.Prelude.{◌≡◌, ◌≤◌, length, IfSome};
+ghost use Rattle.std.specs.Prelude.{◌≡◌, ◌≤◌, false, length, IfSome};
 ghost use Rattle.regress_engine_prefix.specs.Starts.{IsPlain};
-ghost use Rattle.regress_engine_search.specs.Prefiltering.{IsNextHit, is_anchored, literal_of};
+ghost use Rattle.regress_engine_search.specs.Prefiltering.{IsNextHit, is_anchored, is_near, literal_of};
 
 use memchr::memmem::Finder;
 use regress_engine_prefix::StartPredicate;
@@ -44,7 +44,9 @@ impl<'r> Prefilter<'r> {
         matches!(self.start, StartPredicate::StartAnchored)
     }
 
-    /// The first index at which bytes go on as the predicate says, where they are all of the text.
+    /// The first index at which bytes go on as the predicate says, where they are all of the text. It is apart so that no other search makes
+    /// room for it.
+    #[inline(always)]
     fn find_in(&self, bytes: &[u8]) -> Option<usize>
         ensures first { IsNextHit self.now.start.now bytes.now 0 result }
         ensures inside { IfSome result (λ k. k ≤ length bytes.now) }
@@ -63,6 +65,18 @@ impl<'r> Prefilter<'r> {
             StartPredicate::BytePair(pair) => pair.find(bytes, 0),
             StartPredicate::WordStart(word) => word.find(bytes, 0),
         }
+    }
+
+    /// What `find_from` answers where bytes are told apart from what stands before them. It is apart so that no other search makes room for it.
+    #[inline(never)]
+    fn find_behind(&self, text: &[u8], offset: usize) -> Option<usize>
+        requires inside { offset ≤ length text.now }
+        requires anchored { is_anchored self.now.start.now ≡ false }
+        requires near { is_near self.now.start.now ≡ false }
+        ensures { IsNextHit self.now.start.now text.now offset result }
+    {
+        let index = self.find_in(&text[offset..])?;
+        Some(offset + index)
     }
 
     /// The least offset from one on at which the bytes of a text go on as the predicate says, or `None` where they do nowhere.
@@ -84,8 +98,7 @@ impl<'r> Prefilter<'r> {
         if let StartPredicate::WordStart(word) = self.start {
             return word.find(text, offset);
         }
-        let index = self.find_in(&text[offset..])?;
-        Some(offset + index)
+        self.find_behind(text, offset)
     }
 
     /// The same among 16-bit units, where a byte is the unit of the same number. Asks that the offset lies in the text, and for

@@ -58,6 +58,14 @@ unfoldable pub recorded : Undo → List Undo → List Undo
 recorded u [] = []
 recorded u (v ∷ stack) = u ∷ v ∷ stack
 
+-- the data of a loop are recorded
+abbrev pub loop_recorded : ℕ → Held → Held
+loop_recorded id h = record h { stack = recorded (stack.old_loop id (get_or h.loops id (0, 0))) h.stack }
+
+-- the marks of a group are recorded
+abbrev pub group_recorded : ℕ → Held → Held
+group_recorded k h = record h { stack = recorded (stack.old_group k (get_or h.groups k unset)) h.stack }
+
 -- a loop's data are written, and the old ones recorded
 abbrev pub loop_written : ℕ → ℕ × ℕ → Held → Held
 loop_written id x h = record h { stack = recorded (stack.old_loop id (get_or h.loops id (0, 0))) h.stack; loops = slice_set h.loops id x }

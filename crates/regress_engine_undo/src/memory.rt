@@ -1,8 +1,9 @@
 //! What an executor holds: loops, groups, and the records by which both are undone.
 ghost use Rattle.std.specs.Prelude.{◌≡◌, ◌<◌, ℕ, [], None, length, map, get_or, replicate, slice_set, slice_range, MatchOption, OnOk};
 ghost use Rattle.regress_engine_runs.specs.States.{unset};
+ghost use Rattle.regress_engine_runs.specs.UndoStack.{old_group, old_loop};
 ghost use Rattle.regress_engine_search.specs.StateViews.{loop_of, marks_of};
-ghost use Rattle.regress_engine_undo.specs.Held.{held, undo_of, pushed, recorded, loop_written, group_written};
+ghost use Rattle.regress_engine_undo.specs.Held.{held, undo_of, pushed, loop_recorded, group_recorded, loop_written, group_written};
 
 use crate::undo::Undo;
 use regress_front_core::{GroupData, LoopData};
@@ -18,17 +19,26 @@ pub struct Memory {
 }
 
 /// Makes a list one of so many values, all the same. It errs where memory is refused.
-#[inline(always)]
+#[inline(never)]
 fn renew<T: Copy>(list: &mut Vec<T>, count: usize, value: T) -> Result<(), AllocError>
     ensures { OnOk result (list.new.items ≡ replicate count value) }
 {
     list.clear();
-    if list.capacity() < count {
-        return list.resize(count, value);
+    list.resize(count, value)
+}
+
+/// The same where the list mostly has so many values already, which are then written in place.
+#[inline(always)]
+fn rewrite<T: Copy>(list: &mut Vec<T>, count: usize, value: T) -> Result<(), AllocError>
+    ensures { OnOk result (list.new.items ≡ replicate count value) }
+{
+    if list.len() != count {
+        return renew(list, count, value);
     }
-    // Few values stand there sooner one by one.
-    while list.len() < count {
-        list.push(value)?;
+    let mut done = 0;
+    while done < count {
+        list[done] = value;
+        done += 1;
     }
     Ok(())
 }
@@ -58,8 +68,8 @@ impl Memory {
         ensures { OnOk result (held self.new ≡ record { stack = []; loops = replicate loops (0, 0); groups = replicate groups unset }) }
     {
         self.stack.clear();
-        renew(&mut self.loops, loops, LoopData::new(0))?;
-        renew(&mut self.groups, groups, GroupData::new())?;
+        rewrite(&mut self.loops, loops, LoopData::new(0))?;
+        rewrite(&mut self.groups, groups, GroupData::new())?;
         Ok(())
     }
 
@@ -76,15 +86,48 @@ impl Memory {
         Ok(())
     }
 
-    /// Records what is to be undone, where there is anything to go back to.
-    #[inline]
-    fn record(&mut self, undo: Undo) -> Result<(), AllocError>
-        ensures { OnOk result (held self.new ≡ record (held self.old) { stack = recorded (undo_of undo) (held self.old).stack }) }
+    /// Puts a record of a loop's data on the stack. It is apart so that no step makes room for it.
+    #[inline(never)]
+    fn push_loop(&mut self, id: usize) -> Result<(), AllocError>
+        requires { id < length (held self.old).loops }
+        ensures { OnOk result (held self.new ≡ pushed (old_loop id (get_or (held self.old).loops id (0, 0))) (held self.old)) }
+    {
+        let data = self.loop_data(id);
+        self.push(Undo::OldLoop { id, data })
+    }
+
+    /// Records a loop's data, where there is anything to go back to.
+    #[inline(always)]
+    fn record_loop(&mut self, id: usize) -> Result<(), AllocError>
+        requires { id < length (held self.old).loops }
+        ensures { OnOk result (held self.new ≡ loop_recorded id (held self.old)) }
     {
         if self.stack.as_slice().is_empty() {
             return Ok(());
         }
-        self.push(undo)
+        self.push_loop(id)
+    }
+
+    /// Puts a record of a group's marks on the stack. It is apart so that no step makes room for it.
+    #[inline(never)]
+    fn push_group(&mut self, group: usize) -> Result<(), AllocError>
+        requires { group < length (held self.old).groups }
+        ensures { OnOk result (held self.new ≡ pushed (old_group group (get_or (held self.old).groups group unset)) (held self.old)) }
+    {
+        let data = self.group_data(group);
+        self.push(Undo::OldGroup { group, data })
+    }
+
+    /// Records a group's marks, where there is anything to go back to.
+    #[inline(always)]
+    fn record_group(&mut self, group: usize) -> Result<(), AllocError>
+        requires { group < length (held self.old).groups }
+        ensures { OnOk result (held self.new ≡ group_recorded group (held self.old)) }
+    {
+        if self.stack.as_slice().is_empty() {
+            return Ok(());
+        }
+        self.push_group(group)
     }
 
     /// Takes the last record from the stack; `None` where it is empty.
@@ -164,19 +207,18 @@ impl Memory {
     }
 
     /// Writes a loop's data, and records the old ones, where there is anything to go back to.
-    #[inline]
+    #[inline(always)]
     pub(crate) fn write_loop(&mut self, id: usize, value: LoopData<usize>) -> Result<(), AllocError>
         requires { id < length (held self.old).loops }
         ensures { OnOk result (held self.new ≡ loop_written id (loop_of value) (held self.old)) }
     {
-        let old = self.loop_data(id);
-        self.record(Undo::OldLoop { id, data: old })?;
+        self.record_loop(id)?;
         self.restore_loop(id, value);
         Ok(())
     }
 
     /// Writes a group's marks, and records the old ones, where there is anything to go back to.
-    #[inline]
+    #[inline(always)]
     pub(crate) fn write_group(
         &mut self,
         group: usize,
@@ -185,8 +227,7 @@ impl Memory {
         requires { group < length (held self.old).groups }
         ensures { OnOk result (held self.new ≡ group_written group (marks_of value) (held self.old)) }
     {
-        let old = self.group_data(group);
-        self.record(Undo::OldGroup { group, data: old })?;
+        self.record_group(group)?;
         self.restore_group(group, value);
         Ok(())
     }

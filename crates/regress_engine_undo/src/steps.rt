@@ -8,6 +8,7 @@ ghost use Rattle.regress_engine_runs.specs.UndoStack.{frame};
 ghost use Rattle.regress_engine_search.specs.StateViews.{marks_of};
 ghost use Rattle.regress_engine_undo.specs.Held.{held, pushed, loop_written};
 ghost use Rattle.regress_engine_search.specs.Submatches.{submatch_of, reads_forward};
+ghost use Rattle.regress_engine_search.specs.declared.submatch.Submatch.TheVariants.{Lookaround, Atomic};
 ghost use Rattle.regress_engine_undo.specs.Tasks.{ways_again, ways_in, with_marks, two_ways, GoesTo, RepeatsIf, RepeatsPast, StaysSound};
 
 use crate::memory::Memory;
@@ -92,7 +93,7 @@ impl Memory {
     /// ```rust
     /// memory.mark(0, GroupData::new(), &mut spot)?;
     /// ```
-    #[inline]
+    #[inline(always)]
     pub fn mark(
         &mut self,
         group: usize,
@@ -320,5 +321,67 @@ impl Memory {
         spot.at += 1;
         spot.forward = kind.reads_forward(spot.forward);
         Ok(())
+    }
+
+    /// Begins to try the contents of a lookaround that stands at the spot, as `begin_submatch` does.
+    ///
+    /// ```rust
+    /// memory.begin_around(false, true, 0, 1, 9, &mut spot)?;
+    /// ```
+    #[inline(never)]
+    pub fn begin_around(
+        &mut self,
+        negated: bool,
+        backward: bool,
+        first: CaptureGroupID,
+        last: CaptureGroupID,
+        continuation: usize,
+        spot: &mut Spot,
+    ) -> Result<(), AllocError>
+        requires { spot.old.at + 1 < 2 ^ 64 }
+        ensures pushed { OnOk result (held self.new ≡ pushed (frame (record {
+          kind = submatch_of (Lookaround negated backward);
+          first = first;
+          last = last;
+          continuation = continuation;
+          at = spot.old.at;
+          offset = spot.old.offset;
+          outside = direction_of spot.old.forward;
+        })) (held self.old)) }
+        ensures spot { OnOk result (spot.new ≡ record spot.old {
+          at = spot.old.at + 1;
+          forward = reads_forward (submatch_of (Lookaround negated backward)) spot.old.forward;
+        }) }
+    {
+        let kind = Submatch::Lookaround { negated, backward };
+        self.begin_submatch(kind, first, last, continuation, spot)
+    }
+
+    /// Begins to try the contents of an atomic group that stands at the spot, as `begin_submatch` does.
+    ///
+    /// ```rust
+    /// memory.begin_atomic(0, 1, 9, &mut spot)?;
+    /// ```
+    #[inline(never)]
+    pub fn begin_atomic(
+        &mut self,
+        first: CaptureGroupID,
+        last: CaptureGroupID,
+        continuation: usize,
+        spot: &mut Spot,
+    ) -> Result<(), AllocError>
+        requires { spot.old.at + 1 < 2 ^ 64 }
+        ensures pushed { OnOk result (held self.new ≡ pushed (frame (record {
+          kind = submatch_of Atomic;
+          first = first;
+          last = last;
+          continuation = continuation;
+          at = spot.old.at;
+          offset = spot.old.offset;
+          outside = direction_of spot.old.forward;
+        })) (held self.old)) }
+        ensures spot { OnOk result (spot.new ≡ record spot.old { at = spot.old.at + 1; forward = reads_forward (submatch_of Atomic) spot.old.forward }) }
+    {
+        self.begin_submatch(Submatch::Atomic, first, last, continuation, spot)
     }
 }

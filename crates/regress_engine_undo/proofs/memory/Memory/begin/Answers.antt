@@ -7,7 +7,7 @@ use Rattle.regress_engine_undo.proofs.memory.Memory.begin.Goals as goal
 
 pub returns : goal.returns
 returns c =
-    let loops = filled loop_of c.renew.new.list.items c.args.loops c.new.result (0, 0) c.in_ok-renew.ensures (ap loop_of c.new.ensures) in
-    let groups = filled marks_of c.renew-2.new.list.items c.args.groups c.new-2.result unset c.in_ok-renew-2.ensures (ap marks_of c.new-2.ensures) in
+    let loops = filled loop_of c.rewrite.new.list.items c.args.loops c.new.result (0, 0) c.in_ok-rewrite.ensures (ap loop_of c.new.ensures) in
+    let groups = filled marks_of c.rewrite-2.new.list.items c.args.groups c.new-2.result unset c.in_ok-rewrite-2.ensures (ap marks_of c.new-2.ensures) in
     let empty = ap (λ xs. map undo_of (mathlib.Core.List.reverse xs)) c.clear.ensures.items in
     (λ i. record { stack = empty i; loops = loops i; groups = groups i })

@@ -1,22 +1,29 @@
-use Rattle.std.proofs.Common.{◌≡◌, true, ◌+◌, ◌-◌, map, sym, ap, ◌∙◌, refl, subst, arith, length}
+use Rattle.std.proofs.Common.{◌≡◌, ℕ, true, ◌+◌, ◌-◌, map, sym, ap, ◌∙◌, refl, subst, arith, length}
+use Rattle.regress_meaning.specs.Meaning.{Direction, Forward, Backward}
 use Rattle.regress_engine_insn.specs.Instructions.{Stands}
 use Rattle.regress_engine_runs.specs.Closed.{takes_character}
 use Rattle.regress_engine_runs.proofs.RunViews.{one_stands}
 use Rattle.regress_engine_insn.specs.InsnViews.{instruction}
 use Rattle.regress_engine_code.specs.Standing.{program_of}
 use Rattle.regress_engine_input.specs.Views.{direction_of, input_of}
-use Rattle.regress_engine_runs.specs.Runs.{after_times, as_far}
+use Rattle.regress_engine_runs.specs.Runs.{after_times, as_far, gap}
 use Rattle.regress_engine_runs.specs.UndoStack.{give_back, take_on}
 use Rattle.regress_engine_search.specs.StateViews.{marks_of}
 use Rattle.regress_engine_search.proofs.PlaceLemmas.{moves}
 use Rattle.regress_engine_search.proofs.ReadyLemmas.{body-at}
 use Rattle.regress_engine_search.proofs.TaskLemmas.{leads-then}
 use Rattle.regress_engine_undo.specs.Held.{held, pushed}
-use Rattle.regress_engine_undo.proofs.BackLemmas.{give_back-held, take_on-held}
+use Rattle.regress_engine_undo.proofs.BackLemmas.{give_back-held, give_back-last, take_on-held}
 use Rattle.regress_engine_undo.proofs.GoalLemmas.{give_back-goal}
 use Rattle.regress_engine_undo.proofs.SingleLemmas.{repeat-few, repeat-greedy, repeat-lazy, atomic}
 use Rattle.regress_engine_search.proofs.SkipLemmas.{place-lies}
-use Rattle.regress_engine_attempt.proofs.attempt.Attempt.repeat.Goals as goal
+use Rattle.regress_engine_attempt.proofs.attempt.Attempt.repeat_ways.Goals as goal
+use Rattle.regress_engine_attempt.proofs.attempt.Attempt.repeat_ways.Goals.{then-near-far-via-then-near-far, then-near-far-via-else-near-far+then-is_goal}
+
+-- from an offset to itself there is no gap
+no-gap : (dir : Direction) (near far : ℕ) → near ≡ far → gap dir near far ≡ 0
+no-gap Forward near far same = omega (arith, same)
+no-gap Backward near far same = omega (arith, same)
 
 pub returns-in_default-clause-leads : goal.returns-in_default-clause-leads
 returns-in_default-clause-leads g c =
@@ -94,8 +101,8 @@ returns-then-is_possessive-clause-counted g c =
     let most = c.pass-then-greedy.ensures.most (length v.units) (place-lies v all c.args.spot.now.offset c.requires.body.3) (place-lies v all c.as_far-far.result c.as_far-far.ensures.place) in
     omega (arith, most)
 
-pub returns-then-is_goal-clause-leads : goal.returns-then-is_goal-clause-leads
-returns-then-is_goal-clause-leads g c =
+pub returns-then-near-far-clause-leads : goal.returns-then-near-far-clause-leads
+returns-then-near-far-clause-leads g c =
     let program = program_of c.args.self.now.program.now in
     let v = g.Input.InputIndexer.view c.args.self.now.input in
     let input = input_of v in
@@ -109,10 +116,13 @@ returns-then-is_goal-clause-leads g c =
     (ap (λ gs. after_times program input c.args.least i (direction_of p.forward) (map marks_of gs) p.offset) (sym c.deref.ensures.value) ∙ sym c.in-Some.ensures.behind)
     (c.as_far-far.ensures.far ∙ ap (λ gs. as_far program input (c.args.most - c.args.least) i (direction_of p.forward) (map marks_of gs) near) c.deref-then-greedy.ensures.value)
     refl)
-    (give_back-goal program input p h (p.at + 2) near far (moves v) (c.is_goal.ensures c.if-is_goal.true))
+    (elim c.then-near-far.branch [
+      | then-near-far-via-then-near-far w ↦ give_back-last program input p h (p.at + 2) near far (no-gap (direction_of p.forward) near far w.if-near-far.true)
+      | then-near-far-via-else-near-far+then-is_goal w ↦ give_back-goal program input p h (p.at + 2) near far (moves v) (w.is_goal.ensures w.if-is_goal.true)
+    ])
 
-pub returns-then-is_goal-clause-counted : goal.returns-then-is_goal-clause-counted
-returns-then-is_goal-clause-counted g c =
+pub returns-then-near-far-clause-counted : goal.returns-then-near-far-clause-counted
+returns-then-near-far-clause-counted g c =
     let v = g.Input.InputIndexer.view c.args.self.now.input in
     let all = g.met.Input.InputIndexer.are_of_kind c.args.self.now.input in
     let most = c.pass-then-greedy.ensures.most (length v.units) (place-lies v all c.args.spot.now.offset c.requires.body.3) (place-lies v all c.as_far-far.result c.as_far-far.ensures.place) in
