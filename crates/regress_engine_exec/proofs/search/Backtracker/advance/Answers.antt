@@ -8,7 +8,8 @@ use Rattle.regress_engine_runs.specs.Items.{Finds, goes_on}
 use Rattle.regress_engine_search.specs.Search.{Search, IsItemAtPlaces}
 use Rattle.regress_engine_search.proofs.ProducerLemmas.{read-place, read-none, goes-on}
 use Rattle.regress_engine_runs.proofs.FoundItems.{finds-from}
-use Rattle.regress_engine_search.proofs.PlaceLemmas.{moves, place-lies}
+use Rattle.regress_engine_search.proofs.PlaceLemmas.{moves}
+use Rattle.regress_engine_search.proofs.SkipLemmas.{place-lies}
 use Rattle.regress_engine_exec.specs.Searches.{budget_of, search_in, table_in, tabled_in}
 use Rattle.regress_engine_exec.specs.Turned.{ends, most_walked}
 use Rattle.regress_engine_exec.proofs.TableLemmas.{none-ahead, walk-ahead}
