@@ -123,6 +123,7 @@ fn suggested_rank(
     };
     let next = above(ranks, at.saturating_add(1));
     match insn {
+        Insn::Goal | Insn::JustFail | Insn::BackRef { .. } => { if is_free { next } else { 0 } }
         Insn::Jump { target } => above(ranks, *target as usize),
         Insn::Alt { secondary } => next.max(above(ranks, *secondary as usize)),
         Insn::EnterLoop(repetition) => next.max(above(ranks, repetition.exit as usize)),
