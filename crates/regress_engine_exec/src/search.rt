@@ -229,7 +229,37 @@ impl<'r, Input: ExecutorInput, B: SearchBudget> Backtracker<'r, Input, B> {
         };
     }
 
+    /// Searches from an offset on by as many steps as there is patience for; where there is none any more, it makes tables and answers nothing.
+    /// It is apart so that no other search makes room for it.
+    #[inline(never)]
+    fn search_counted(
+        &mut self,
+        offset: usize,
+    ) -> Result<Option<Option<(usize, usize)>>, AllocError>
+        requires { IsAtPlace (reading_of (Input.view self.old.context.input)) offset }
+        ensures found { IfOk result (λ ended. IfSome ended (λ found. IsFound (program_in self.old) (input_of (Input.view self.old.context.input)) offset found (groups_in self.new))) }
+        ensures budget { budget_of self.new ≡ budget_of self.old }
+        ensures kept { self.new.context ≡ self.old.context }
+        ensures turns { turns_in self.new ≡ turns_in self.old }
+        ensures table { table_in self.new ≡ table_in self.old }
+        ensures tabled { tabled_in self.new ≡ tabled_in self.old }
+    {
+        let ended = first_from(
+            &self.context,
+            &mut self.scratch,
+            &mut self.remembered,
+            &mut self.patience,
+            offset,
+        )?;
+        if let Ended::With(found) = ended {
+            return Ok(Some(found));
+        }
+        self.make_tables();
+        Ok(None)
+    }
+
     /// Searches from an offset on, as long as there is patience; else, and where there is none any more, nothing is answered.
+    #[inline(always)]
     fn search_in_time(
         &mut self,
         offset: usize,
@@ -245,18 +275,7 @@ impl<'r, Input: ExecutorInput, B: SearchBudget> Backtracker<'r, Input, B> {
         if self.patience.0 == 0 {
             return Ok(None);
         }
-        let ended = first_from(
-            &self.context,
-            &mut self.scratch,
-            &mut self.remembered,
-            &mut self.patience,
-            offset,
-        )?;
-        if let Ended::With(found) = ended {
-            return Ok(Some(found));
-        }
-        self.make_tables();
-        Ok(None)
+        self.search_counted(offset)
     }
 
     /// Runs the program from an offset, as long as there is patience; else, and where there is none any more, nothing is answered.
@@ -287,6 +306,7 @@ impl<'r, Input: ExecutorInput, B: SearchBudget> Backtracker<'r, Input, B> {
     }
 
     /// Searches from an offset on by its tables, if it has some; else, and where memory is refused, nothing is answered.
+    #[inline(always)]
     fn search_by_tables(&mut self, offset: usize) -> Option<Option<(usize, usize)>>
         requires { IsAtPlace (reading_of (Input.view self.old.context.input)) offset }
         ensures found { IfSome result (λ found. IsFound (program_in self.old) (input_of (Input.view self.old.context.input)) offset found (groups_in self.new)) }

@@ -68,7 +68,7 @@ returns g c =
           let after = tabled_in c.find_from.new.self in
           let more = subst (λ o. after ≤ before + most_walked (table_in self) (option_map (λ m. ends (item_of m)) o)) c.in-Some.is c.in_ok-found.ensures.tabled in
           let last = subst (λ w. i.end ≤ length w.units) (sym (g.met.Input.ExecutorInput.shows context.input))
-              (place-lies v (g.met.Input.InputIndexer.are_of_kind context.input) i.end inside.0.1) in
+          (place-lies v (g.met.Input.InputIndexer.are_of_kind context.input) i.end inside.0.1) in
           let from : c.args.position ≤ i.start = finds-from (program_of context.program.now) (input_of v) (moves v) found in
           let walk = walk-ahead (program_of context.program.now) v i inside.0.2 (table_in self) (length s.view.units) c.args.position c.goes_on.result from last goes in
           omega (arith, more, walk);

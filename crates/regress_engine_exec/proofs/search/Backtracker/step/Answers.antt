@@ -25,4 +25,4 @@ returns-clause-tabled g c =
     let self = c.args.self.now in
     unless-err _ c.advance.result c.transpose.result c.transpose.ensures
     (subst (λ o. OnOk c.advance.result (tabled_in c.advance.new.self + ahead (table_in self) (length (search_in self).view.units) c.advance.new.next
-        ≤ tabled_in self + ahead (table_in self) (length (search_in self).view.units) o)) (sym (sym c.take.ensures.value ∙ c.in_ok-from.was)) c.advance.ensures.tabled)
+    ≤ tabled_in self + ahead (table_in self) (length (search_in self).view.units) o)) (sym (sym c.take.ensures.value ∙ c.in_ok-from.was)) c.advance.ensures.tabled)

@@ -1,7 +1,7 @@
 use Rattle.std.proofs.Common.{subst}
 use Rattle.regress_engine_attempt.specs.Attempts.{Remembers, world_of}
 use Rattle.regress_engine_attempt.proofs.RememberLemmas.{remembers-anyway}
-use Rattle.regress_engine_exec.proofs.search.Backtracker.search_in_time.Goals as goal
+use Rattle.regress_engine_exec.proofs.search.Backtracker.search_counted.Goals as goal
 
 pub first_from-requires-clause-so : goal.first_from-requires-clause-so
 first_from-requires-clause-so g c =
