@@ -237,7 +237,14 @@ const HOSTILE: &[HostileRow] = &[
     ("(?:(?=a*b)a)*b", "", "a", 50_000, "b", Some((0, 50_001))),
     ("(?:(?=(?:a|d)*b)a)*c", "", "a", 20_000, "b", None),
     ("(?:(?<=(?:^|b)a*)a)+c", "", "a", 20_000, "b", None),
-    ("(?:(?<=(?:^|b)a*)a)+c", "", "a", 20_000, "c", Some((0, 20_001))),
+    (
+        "(?:(?<=(?:^|b)a*)a)+c",
+        "",
+        "a",
+        20_000,
+        "c",
+        Some((0, 20_001)),
+    ),
     // Of a program that is not linear there is no table.
     ("(?:(?=(a*)b)a)*c", "", "a", 1_000, "b", None),
     // What is known of an iteration that has taken nothing is not known of one that has.
@@ -343,15 +350,25 @@ fn ranges_within(
     Ok(Some(ranges))
 }
 
+/// The same of a pattern, whose program of bytes is made.
+fn linear_ranges(
+    alloc: Global,
+    pattern: &str,
+    flags: &str,
+    text: &str,
+) -> Result<Option<Vec<Range>>, Fail> {
+    let tables = Tables::small(alloc)?;
+    let program = emit(alloc, &rewritten(alloc, pattern, flags, &tables)?)?;
+    ranges_within(alloc, &program, text)
+}
+
 #[test]
 fn linear_ones_are_searched_in_enough_steps(rt: HostRuntime) -> Result<(), Fail> {
-    let tables = Tables::small(rt.alloc())?;
     let mut linear: usize = 0;
     for (pattern, flags, piece, count, end, expected) in HOSTILE {
         let mut text = piece.repeat(rt.alloc(), *count)?;
         text.push_str(end)?;
-        let program = emit(rt.alloc(), &rewritten(rt.alloc(), pattern, flags, &tables)?)?;
-        if let Some(ranges) = ranges_within(rt.alloc(), &program, text.as_str())? {
+        if let Some(ranges) = linear_ranges(rt.alloc(), pattern, flags, text.as_str())? {
             assert!(rt; ranges.first().map(|r| (r.start, r.end)) == *expected);
             linear = linear.saturating_add(1);
         }
@@ -370,12 +387,10 @@ const BEHIND_RUNS: &[(&str, &str, &str, usize)] = &[
 
 #[test]
 fn bytes_behind_runs_are_looked_for_in_enough_steps(rt: HostRuntime) -> Result<(), Fail> {
-    let tables = Tables::small(rt.alloc())?;
     for (pattern, piece, end, expected) in BEHIND_RUNS {
         let mut text = piece.repeat(rt.alloc(), 200_000)?;
         text.push_str(end)?;
-        let program = emit(rt.alloc(), &rewritten(rt.alloc(), pattern, "", &tables)?)?;
-        let ranges = ranges_within(rt.alloc(), &program, text.as_str())?;
+        let ranges = linear_ranges(rt.alloc(), pattern, "", text.as_str())?;
         assert!(rt; ranges.map(|r| r.len()) == Some(*expected));
     }
     Ok(())
