@@ -193,7 +193,7 @@ fn a_table_tells_what_groups_took(rt: HostRuntime) -> Result<(), Fail> {
     let Some(found) = first_linear(&regex, text.as_str())? else {
         return Err(Fail::new(format!(in rt.alloc(); "no match")?));
     };
-    assert!(rt; found.range() == 0..10_001 && found.group(1) == Some(9_999..10_000));
+    assert!(rt; found.range() == (0..10_001) && found.group(1) == Some(9_999..10_000));
     assert!(rt; found.group(2).is_none() && found.group(3) == Some(10_000..10_001));
     assert!(rt; found.group(4) == Some(9_999..10_000));
     Ok(())
