@@ -97,11 +97,7 @@ impl<'r, Input: ExecutorInput> BacktrackExecutor<'r, Input> {
         ensures program { (⟦<BacktrackExecutor<'r, Input> as MatchProducer>⟧.search_of result).compiled ≡ program.entry.now }
         ensures text { (⟦<BacktrackExecutor<'r, Input> as MatchProducer>⟧.search_of result).view ≡ Input.view input }
     {
-        let mut executor = Backtracker::with_budget(
-            alloc, program, None, input, scratch, Unbounded,
-        );
-        executor.patience = patience(&executor.context);
-        executor
+        Backtracker::with_budget(alloc, program, None, input, scratch, Unbounded)
     }
 }
 
@@ -157,6 +153,10 @@ impl<'r, Input: ExecutorInput, B: SearchBudget> Backtracker<'r, Input, B> {
         let remembered = Remembered::new(alloc, units);
         let mut budget = budget;
         let turning = turning_over(table, units, &mut budget);
+        let patience = match budget.over() {
+            Some(_) => StepsLeft(0),
+            None => patience(&context),
+        };
         Backtracker {
             alloc,
             context,
@@ -164,7 +164,7 @@ impl<'r, Input: ExecutorInput, B: SearchBudget> Backtracker<'r, Input, B> {
             remembered,
             budget,
             turning,
-            patience: StepsLeft(0),
+            patience,
             tables: None,
         }
     }
