@@ -143,15 +143,6 @@ pub(crate) fn default_matches(
     Ok(told)
 }
 
-/// Adds what an iterator over matches gave that may take so many steps.
-fn push_bounded(told: &mut String, found: Result<Match, SearchError>) -> Result<(), AllocError> {
-    match found {
-        Ok(found) => push_match(told, &found),
-        Err(SearchError::TooManySteps) => told.push_str(" and too many steps"),
-        Err(SearchError::OutOfMemory) => Err(AllocError),
-    }
-}
-
 /// The matches by `find_from` of a pattern that may take so many steps.
 pub(crate) fn bounded_matches(
     alloc: Global,
@@ -168,7 +159,11 @@ pub(crate) fn bounded_matches(
     };
     let mut told = String::new(alloc);
     for found in matches {
-        push_bounded(&mut told, found)?;
+        match found {
+            Ok(found) => push_match(&mut told, &found)?,
+            Err(SearchError::TooManySteps) => told.push_str(" and too many steps")?,
+            Err(SearchError::OutOfMemory) => return Err(AllocError),
+        }
     }
     Ok(told)
 }

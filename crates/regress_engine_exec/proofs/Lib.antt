@@ -1,4 +1,3 @@
 pub mod CountLemmas
 pub mod BeginLemmas
 pub mod TurnLemmas
-pub mod TableLemmas

@@ -1,8 +1,7 @@
 -- What an executor turns to is so where some proof of it is kept, and by tables nothing is counted.
 use mathlib.Core.HLevel.{Π_prop, ×_prop, Σ_prop_path}
 use Rattle.std.specs.Coded.{codes, le_prop}
-use Rattle.std.specs.Prelude.{IfSome, List, is_some, length, map, nat_lt, Result, Ok, Err, IfOk}
-use Rattle.std.specs.Result.{IfErr, IsErrAnd}
+use Rattle.std.specs.Prelude.{IfSome, List, is_some, length, nat_lt, Result, Ok, Err, IfOk}
 use Rattle.std.proofs.Common.{◌≡◌, ℕ, suc, ◌^◌, ◌-◌, ◌<◌, ◌≤◌, ◌⊎◌, inl, inr, Bool, true, false, [], ◌∷◌, Option, Some, None, refl, sym, ◌∙◌, subst, arith}
 use Rattle.std.proofs.Math.Logic.{∥∥₁_elim, ∥∥₁_map}
 use Rattle.std.proofs.lemmas.Bool.{and_parts, cases_lt, ltb-true}
@@ -12,8 +11,6 @@ use Rattle.regress_front_nodes.specs.Trees.{Submatch, lookaround, atomic}
 use Rattle.regress_engine_input.specs.Views.{View, AreOfKind, input_of, reading_of}
 use Rattle.regress_engine_insn.specs.Instructions.{LoopFields, Instruction, Program, Stands}
 use Rattle.regress_engine_insn.specs.Instructions as code
-use Rattle.regress_engine_insn.specs.InsnViews.{instruction}
-use Rattle.regress_engine_insn.specs.declared.insn.Insn.{Insn}
 use Rattle.regress_engine_runs.specs.States.{Whole}
 use Rattle.regress_engine_runs.specs.UndoStack.{whole}
 use Rattle.regress_engine_runs.specs.Meets.{IsAtPlace, referred}
@@ -35,9 +32,8 @@ use Rattle.regress_engine_answers.specs.declared.searching.TextTable.{TextTable}
 use Rattle.regress_engine_attempt.specs.Counting.{most_counted, CountsRun}
 use Rattle.regress_engine_attempt.proofs.CountLemmas.{spends-none, spends-more}
 use Rattle.regress_engine_exec.specs.Counting.{CountsSearch}
-use Rattle.regress_engine_exec.specs.Turned.{GoesOnBy, TellsLinear, Turns, TurnsBy, fits_told, most_told}
+use Rattle.regress_engine_exec.specs.Turned.{TellsLinear, Turns, fits_told, most_told}
 use Rattle.regress_engine_exec.specs.declared.turning.Turning.{Turning}
-use Rattle.regress_engine_exec.specs.declared.tables.Tables.{Tables}
 use Rattle.regress_engine_exec.proofs.CountLemmas.{counts-first, counts-over}
 
 bool-set : IsSet Bool
@@ -290,45 +286,32 @@ told-anyway table program v t kept = record {
 -- ---- what an executor turns to
 
 module _ (program : Program) (v : View) where
-  turns-anyway : (table : LinearTable) (of_text : Option TextTable) → ∥ TurnsBy program v table of_text ∥₁ → TurnsBy program v table of_text
-  turns-anyway table of_text kept = record {
-    linear = linear-anyway (flow_in table) (heights_in table) program (∥∥₁_map kept (λ x. x.linear));
+  turns-anyway : (t : Turning) → ∥ Turns program v t ∥₁ → Turns program v t
+  turns-anyway t kept = record {
+    linear = linear-anyway (flow_in t.table.now) (heights_in t.table.now) program (∥∥₁_map kept (λ x. x.linear));
     short = ∥∥₁_elim kept le_prop (λ x. x.short);
-    told = by_told of_text (∥∥₁_map kept (λ x. x.told));
+    told = by_told t.told (∥∥₁_map kept (λ x. x.told));
   }
     where
-      by_told : (o : Option TextTable) → ∥ IfSome o (IsTold table program v) ∥₁ → IfSome o (IsTold table program v)
+      by_told : (o : Option TextTable) → ∥ IfSome o (IsTold t.table.now program v) ∥₁ → IfSome o (IsTold t.table.now program v)
       by_told None k = tt
-      by_told (Some t) k = told-anyway table program v t k
+      by_told (Some told) k = told-anyway t.table.now program v told k
 
   pub turning-anyway : (o : Option Turning) → ∥ IfSome o (Turns program v) ∥₁ → IfSome o (Turns program v)
   turning-anyway None kept = tt
-  turning-anyway (Some t) kept = turns-anyway t.table.now t.told kept
-
-  pub tables-anyway : (o : Option Tables) → ∥ IfSome o (GoesOnBy program v) ∥₁ → IfSome o (GoesOnBy program v)
-  tables-anyway None kept = tt
-  tables-anyway (Some t) kept = turns-anyway t.table (Some t.told) kept
-
--- a program is linear by the table that was made of its instructions
-pub made-linear : (program : Program) (insns : List Insn) (made : Option LinearTable) (table : LinearTable) → made ≡ Some table → program.instructions ≡ map instruction insns
-    → IfSome made (λ t. (p : Program) → p.instructions ≡ map instruction insns → IsLinear (flow_in t) (heights_in t) p) → IsLinear (flow_in table) (heights_in table) program
-made-linear program insns made table is same known =
-    subst (λ o. IfSome o (λ t. (p : Program) → p.instructions ≡ map instruction insns → IsLinear (flow_in t) (heights_in t) p)) is known program same
-
--- a text whose table fits is not too long
-pub short-told : (table : LinearTable) (v : View) (units : ℕ) → units ≡ length v.units → fits_told table units ≡ true → suc (length v.units) < too_long
-short-told table v units same fits = let low : units < most_told = ltb-true units most_told (and_parts (nat_lt units most_told) _ fits).0 in omega (arith, low, same)
+  turning-anyway (Some t) kept = turns-anyway t kept
 
 -- what is made of the table of a linear program is turned to
 pub turns-made : (program : Program) (v : View) (table : Option LinearTable) (o : Option Turning) (units : ℕ) → units ≡ length v.units → TellsLinear program table
-    → IfSome o (λ t. (table ≡ Some t.table.now) × (fits_told t.table.now units ≡ true)) → IfSome o (λ t. (t.told ≡ None) × (t.steps ≡ 0)) → ∥ IfSome o (Turns program v) ∥₁
+    → IfSome o (λ t. (table ≡ Some t.table.now) × (fits_told t.table.now units ≡ true)) → IfSome o (λ t. t.told ≡ None) → ∥ IfSome o (Turns program v) ∥₁
 turns-made program v table None units same tells made untold = ∣ tt ∣₁
 turns-made program v table (Some t) units same tells (is, fits) none =
+    let low : units < most_told = ltb-true units most_told (and_parts (nat_lt units most_told) _ fits).0 in
     let given : TellsLinear program (Some t.table.now) = subst (TellsLinear program) is tells in
     ∥∥₁_map given (λ linear. record {
       linear = linear;
-      short = short-told t.table.now v units same fits;
-      told = subst (λ o. IfSome o (IsTold t.table.now program v)) (sym none.0) tt;
+      short = omega (arith, low, same);
+      told = subst (λ o. IfSome o (IsTold t.table.now program v)) (sym none) tt;
     })
 
 -- ---- where nothing is counted
@@ -350,8 +333,3 @@ run-spends program v searchable at place b =
 pub if-found : {T E X : Type 0} (r : Result T E) → X → IfOk r (λ _. X)
 if-found (Ok x) h = h
 if-found (Err e) h = tt
-
--- an error that came of refused memory says nothing of steps
-pub if-refused : {T E : Type 0} {Gives Over : E → Type 0} (P : Type 0) (r : Result T E) → IsErrAnd r Gives → ((e : E) → Gives e → Over e → ⊥) → IfErr r (λ e. Over e → P)
-if-refused P (Ok x) gives never = tt
-if-refused P (Err e) gives never = λ over. absurd (never e gives over)

@@ -9,7 +9,6 @@ mod producer;
 mod scratch;
 mod search;
 mod stepping;
-mod tables;
 mod turning;
 
 pub use budget::SearchBudget;

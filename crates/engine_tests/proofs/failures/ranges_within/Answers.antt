@@ -5,6 +5,3 @@ use Rattle.engine_tests.proofs.failures.ranges_within.Goals as goal
 
 pub loop-preserved : goal.loop-preserved
 loop-preserved c = subst (λ s. IfSome c.step.new.position (IsPosition s)) (sym c.step.ensures.kept) c.step.ensures.inside
-
-pub invariant_of-executor-in_err-push : goal.invariant_of-executor-in_err-push
-invariant_of-executor-in_err-push c = record { so = c.step.new.self.so; turns = c.step.new.self.turns; tells = c.step.new.self.tells }

@@ -45,8 +45,3 @@ pub returns-clause-found : goal.returns-clause-found
 returns-clause-found c = λ t o p stands template.
     found-all template (names_of_regex c.args.regex.now) c.args.text.now c.loop-found.founds.items _ _ c.in-None.ensures.steps.2.first.0
     (c.loop-found.invariant.found t o p stands template)
-
-pub invariant_of-found-iterator-in_err-push : goal.invariant_of-found-iterator-in_err-push
-invariant_of-found-iterator-in_err-push c =
-    let executor = c.next.new.self.executor in
-    record { so = executor.so; turns = executor.turns; tells = executor.tells }

@@ -19,5 +19,4 @@ invariant_of-result g c =
       so = ∣ c.new-remembered.ensures (world_of program shown) ∣₁;
       turns = turns-made (program_of program) shown _ c.turning_over-turning.result c.text_len-units.result (c.text_len-units.ensures ∙ seen) tells
           c.turning_over-turning.ensures.table c.turning_over-turning.ensures.untold;
-      tells = ∣ tt ∣₁;
     }
