@@ -1,3 +1,2 @@
 pub mod MayBegin
 pub mod Planned
-pub mod Submatches

@@ -1,4 +1,4 @@
-//! Where a walk stands, and where it goes on behind the contents of lookarounds.
+//! Where a walk stands, and where it goes on behind the contents of lookarounds and atomic groups.
 ghost use Rattle.std.specs.Prelude.{◌≡◌, ◌+◌, ◌^◌, ◌<◌, suc, [], ◌∷◌, true, None, Some, IfOk, OnOk, if◌then◌else◌};
 ghost use Rattle.regress_engine_insn.specs.Instructions.{fail};
 ghost use Rattle.regress_engine_insn.specs.InsnViews.{instruction};
