@@ -395,8 +395,8 @@ class Pattern:
         A pattern is linear that has no back reference; whose repetitions have no greatest number, or 1, and a least number of 0 or 1,
         or are of one character and have numbers up to 256; in which nothing that may be empty is repeated; whose lookarounds are
         negated, or have no groups or no quantifiers inside, with no lookahead inside a lookbehind; and whose atomic groups have neither
-        quantifiers nor atomic groups inside, and are never all that an iteration takes. It has at most 65,536 instructions. Where memory
-        for the tables is refused it isn't known to be. To work it out takes less time than compiling did.
+        quantifiers nor atomic groups inside. It has at most 65,536 instructions. Where memory for the tables is refused it isn't known
+        to be. To work it out takes less time than compiling did.
         """
         code = _is_linear(self._compiled)
         _check(code)

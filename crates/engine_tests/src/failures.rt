@@ -228,10 +228,28 @@ const HOSTILE: &[HostileRow] = &[
     ("(?:(?<=(a)|^)(?:a|ab))*c", "", "a", 500, "", None),
     ("(?:(?>a|bc)x)*d", "", "ax", 1_000, "", None),
     ("(?:(?>a|bc)x)*d", "", "bcx", 1_000, "d", Some((0, 3_001))),
+    // An atomic group is all that an iteration takes.
+    ("(?:(?>a|ab))*c", "", "a", 20_000, "", None),
+    ("(?>ab|a)+c", "", "aba", 5_000, "c", Some((0, 15_001))),
     // Nothing is passed again and again before runs that end at once.
     (r"\d+(?:\.\d+)?%", "", "1", 50_000, "", None),
     ("[a-z]+(?:11|22)z", "", "a", 50_000, "", None),
     (r"[A-Za-z]+@[a-z]+\.com", "", "a", 50_000, "@b", None),
+    // Lookarounds whose contents match are told of by a table, once they were run very often.
+    ("(?:(?=a*b)a)*c", "", "a", 50_000, "b", None),
+    ("(?:(?=a*b)a)*b", "", "a", 50_000, "b", Some((0, 50_001))),
+    ("(?:(?=(?:a|d)*b)a)*c", "", "a", 20_000, "b", None),
+    ("(?:(?<=(?:^|b)a*)a)+c", "", "a", 20_000, "b", None),
+    (
+        "(?:(?<=(?:^|b)a*)a)+c",
+        "",
+        "a",
+        20_000,
+        "c",
+        Some((0, 20_001)),
+    ),
+    // Of a program that is not linear there is no table.
+    ("(?:(?=(a*)b)a)*c", "", "a", 1_000, "b", None),
     // What is known of an iteration that has taken nothing is not known of one that has.
     (
         "(?:x|x)*y|a?(?=(?:a?)*b)a",

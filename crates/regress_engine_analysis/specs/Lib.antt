@@ -1,2 +1,3 @@
 pub mod MayBegin
 pub mod Planned
+pub mod Submatches

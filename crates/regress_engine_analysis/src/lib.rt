@@ -7,6 +7,7 @@ mod first_bytes;
 mod plan;
 mod sets;
 mod shortcuts;
+mod submatches;
 
 pub use facts::{Facts, Known, Turn};
 pub use plan::Plan;

@@ -3,18 +3,23 @@ ghost use Rattle.std.specs.Prelude.{◌≡◌, ℕ, IfOk, not};
 ghost use Rattle.regress_engine_insn.specs.ProgramViews.{program_from};
 ghost use Rattle.regress_engine_analysis.specs.MayBegin.{may_begin_with};
 ghost use Rattle.regress_engine_analysis.specs.Planned.{ArePlanned, firsts, known_of};
+ghost use Rattle.regress_engine_analysis.specs.Submatches.{has_submatches};
 
 use crate::facts::{Facts, Known};
 use crate::first_bytes::first_bytes_by_address;
 use crate::shortcuts::known_at;
+use crate::submatches::has_submatches;
 use regress_engine_insn::Insn;
 use regress_front_nodes::BracketContents;
 use std::alloc::{AllocError, Global};
 
-/// What is known of each address of a program without running it.
+/// What is known of a program without running it.
 #[derive(Debug, Drop)]
 pub struct Plan {
+    /// Of each address.
     facts: Vec<Facts>,
+    /// Whether there are lookarounds or atomic groups.
+    submatches: bool,
 }
 
 impl Plan {
@@ -30,7 +35,8 @@ impl Plan {
         brackets: &[BracketContents],
         units: bool,
     ) -> Result<Plan, AllocError>
-        ensures { (loops groups : ℕ) → IfOk result (λ plan. ArePlanned (program_from insns.now brackets.now loops groups units) plan.facts.items) }
+        ensures planned { (loops groups : ℕ) → IfOk result (λ plan. ArePlanned (program_from insns.now brackets.now loops groups units) plan.facts.items) }
+        ensures submatches { IfOk result (λ plan. plan.submatches ≡ has_submatches insns.now) }
     {
         let mut facts = Vec::new(alloc);
         let sets = first_bytes_by_address(alloc, insns, brackets)?;
@@ -40,7 +46,10 @@ impl Plan {
                 known: known_at(insns, &sets, at),
             })?;
         }
-        Ok(Plan { facts })
+        Ok(Plan {
+            facts,
+            submatches: has_submatches(insns),
+        })
     }
 
     /// Whether no match can be reached from an address on where a byte stands ahead, read forward.
@@ -71,16 +80,29 @@ impl Plan {
         }
     }
 
+    /// Whether the program has lookarounds or atomic groups.
+    ///
+    /// ```rust
+    /// let looks_around = plan.has_submatches();
+    /// ```
+    pub fn has_submatches(&self) -> bool
+        ensures { result ≡ self.now.submatches }
+    {
+        self.submatches
+    }
+
     /// The same plan once more. It errs only where memory is refused.
     ///
     /// ```rust
     /// let copy = plan.try_clone(alloc)?;
     /// ```
     pub fn try_clone(&self, alloc: Global) -> Result<Plan, AllocError>
-        ensures { IfOk result (λ plan. plan.facts.items ≡ self.now.facts.items) }
+        ensures facts { IfOk result (λ plan. plan.facts.items ≡ self.now.facts.items) }
+        ensures submatches { IfOk result (λ plan. plan.submatches ≡ self.now.submatches) }
     {
         Ok(Plan {
             facts: self.facts.to_vec(alloc)?,
+            submatches: self.submatches,
         })
     }
 }

@@ -1,6 +1,6 @@
 -- The preferred way through contents ends where their run has its answer.
 use Rattle.std.specs.Prelude.{is_some, slice_get}
-use Rattle.std.proofs.Common.{◌≡◌, ℕ, zero, suc, ◌+◌, ◌-◌, ◌<◌, ◌≤◌, Bool, true, false, List, [], ◌∷◌, length, Option, None, Some, if◌then◌else◌, refl, sym, ap, ◌∙◌, subst, append-nil, arith}
+use Rattle.std.proofs.Common.{◌≡◌, ℕ, zero, suc, ◌+◌, ◌-◌, ◌<◌, ◌≤◌, ◌⊎◌, Bool, true, false, List, [], ◌∷◌, length, Option, None, Some, if◌then◌else◌, refl, sym, ap, ◌∙◌, subst, append-nil, arith}
 use Rattle.regress_meaning.specs.Meaning.{Direction}
 use Rattle.regress_meaning.specs.Inputs.{Input}
 use Rattle.regress_front_nodes.specs.Trees.{lookaround, atomic}
@@ -17,16 +17,17 @@ use Rattle.regress_engine_runs.proofs.Parts.{meets-first}
 use Rattle.regress_engine_runs.specs.UndoStack.{whole}
 use Rattle.regress_engine_search.specs.Search.{Suits}
 use Rattle.regress_engine_memory.specs.Flow.{Flow}
-use Rattle.regress_engine_memory.specs.Under.{IsOnward}
+use Rattle.regress_engine_memory.specs.Under.{IsFurther}
+use Rattle.regress_engine_linear.proofs.EndsBeyond.{atomic-beyond}
 use Rattle.regress_engine_linear.proofs.Running.{running-behind, running-inside}
 use Rattle.regress_engine_linear.specs.Answered.{Ends, IsAnswered, ReadsAlong, answer_at}
 use Rattle.regress_engine_linear.specs.Linear.{AreLoopFree}
-use Rattle.regress_engine_linear.specs.RankTables.{Heights, forward_at, ranking_of}
+use Rattle.regress_engine_linear.specs.RankTables.{Heights, forward_at, rank_at, ranking_of}
 use Rattle.regress_engine_linear.specs.Ranks.{AreRunning, Inside, IsBeyond, Lowers, Ranking}
 use Rattle.regress_engine_answers.specs.Walked.{IsOnWay, MayPass, contents_end, end_by, is_entered, led, marked, told_if, value_at}
 use Rattle.regress_engine_answers.specs.declared.walker.Station.{Station}
 use Rattle.regress_engine_answers.proofs.Through.{through}
-use Rattle.regress_engine_answers.proofs.WalkLemmas.{at-goal, atomic-ends, ends-way, look-into, on-way, told-here}
+use Rattle.regress_engine_answers.proofs.WalkLemmas.{at-goal, ends-way, look-into, on-way, told-here}
 use Rattle.regress_engine_linear.proofs.ExitWays.{runs-stand}
 
 -- of a one-character loop the same is worked out whatever the groups are
@@ -72,7 +73,7 @@ module _ (flow : Flow) (h : Heights) (v : View) (all : AreOfKind v.kind v.units)
     (told : ℕ → ℕ → Bool) (Past : (at o : ℕ) → Type 0)
     (right : (at o : ℕ) → at < length h.ranks → o ≤ length v.units → direction_of (forward_at h at) ≡ dir → Past at o → IsAnswered flow (ranking_of h) program v dir at o (told at o))
     (past : (s u : Whole) → Past s.at s.offset → IsBeyond (ranking_of h) (length v.units) dir s u → Past u.at u.offset)
-    (hs : List Marks) (look first last end : ℕ) (free : AreLoopFree h program false look first last end) where
+    (hs : List Marks) (look first last end : ℕ) (free : AreLoopFree program false look first last end) where
   abbrev Out : ℕ → (at o : ℕ) → Option ℕ
   Out n at o = contents_end told program (input_of v) dir hs n at o
 
@@ -98,7 +99,7 @@ module _ (flow : Flow) (h : Heights) (v : View) (all : AreOfKind v.kind v.units)
       on i here other out later None e = absurd (other (ends-way flow h v all program suits may dir told Past right past w at o gs way p hs i here e))
       on i here other out later (Some x) e =
           let (more, less) = through false first last end told program (input_of v) dir hs at o x i (free.leads at i after ahead here) e in
-          let (next, ls, beyond) = on-way flow h v all program suits may dir told Past right past w at o gs way p hs i here out x e in
+          let (next, ls, beyond, same) = on-way flow h v all program suits may dir told Past right past w at o gs way p hs i here out x e in
           later x.at x.offset w (marked dir i o gs) next (past (whole at o way.loops gs) (whole x.at x.offset ls (marked dir i o gs)) p beyond) (omega (arith, after, more)) less (omega (arith, few, more))
 
       by_look : (negated backward : Bool) (low high continuation : ℕ) → Stands program at (code.submatch (lookaround negated backward) low high continuation) → Then
@@ -126,8 +127,9 @@ module _ (flow : Flow) (h : Heights) (v : View) (all : AreOfKind v.kind v.units)
     (told : ℕ → ℕ → Bool) (Past : (at o : ℕ) → Type 0)
     (right : (at o : ℕ) → at < length h.ranks → o ≤ length v.units → direction_of (forward_at h at) ≡ dir → Past at o → IsAnswered flow (ranking_of h) program v dir at o (told at o))
     (past : (s u : Whole) → Past s.at s.offset → IsBeyond (ranking_of h) (length v.units) dir s u → Past u.at u.offset)
-    (hs : List Marks) (low high continuation at o : ℕ) (here : Stands program at (code.submatch atomic low high continuation)) (free : AreLoopFree h program false at low high continuation)
-    (lies : o ≤ length v.units) (past-inside : Past (suc at) o) (past-behind : (q : ℕ) → IsOnward (length v.units) dir o q → Past continuation q) where
+    (hs : List Marks) (low high continuation at o : ℕ) (here : Stands program at (code.submatch atomic low high continuation)) (free : AreLoopFree program false at low high continuation)
+    (lies : o ≤ length v.units) (past-inside : Past (suc at) o)
+    (past-behind : (q : ℕ) → IsFurther (length v.units) dir o q ⊎ ((q ≡ o) × (rank_at h continuation < rank_at h at)) → Past continuation q) where
   abbrev r : Ranking
   r = ranking_of h
 
@@ -150,7 +152,7 @@ module _ (flow : Flow) (h : Heights) (v : View) (all : AreOfKind v.kind v.units)
       s : Whole
       s = whole at o loops groups
 
-      both : Lowers r 0 at continuation × Inside r atomic at
+      both : Lowers r 1 at continuation × Inside r atomic at continuation
       both = may.ranked at look running.calm here
 
       live : AreRunning flow r program (length v.units) dir (whole (suc at) o loops groups)
@@ -165,9 +167,9 @@ module _ (flow : Flow) (h : Heights) (v : View) (all : AreOfKind v.kind v.units)
       goes-on : (m : ℕ) (t : Whole) → Run program (input_of v) dir (whole (suc at) o loops groups ∷ []) m (Some t) → Answer (told continuation t.offset)
       goes-on m t run =
           let ms : List Marks = mixed 0 low high t.groups groups in
-          let (on, low') = atomic-ends flow h v all program suits may dir at o low high continuation loops groups running here along m (Some t) run lies in
-          let (n, a, next, is) = right continuation t.offset both.0.within low' (ap direction_of both.0.way ∙ running.way) (past-behind t.offset on) loops ms
-          (running-behind flow r v all program suits may.closed may.ranked dir atomic low high continuation s running here t.offset ms on)
+          let (on, low') = atomic-beyond flow r v all program suits may.closed may.ranked may.unreferring dir low high continuation s running lies here m (Some t) run reads in
+          let (n, a, next, is) = right continuation t.offset both.0.within low' (ap direction_of both.0.way ∙ running.way) (past-behind t.offset (on ms)) loops ms
+          (running-behind flow r v all program suits may.closed may.ranked dir atomic low high continuation s running here t.offset ms (on ms))
           (λ u j met. along u j (behind here (m, run) (meets-first program (input_of v) met []))) in
           (suc (m + n), a, looks {m = m} {n = n} {q = Some t} {r = a} here run (subst (λ xs. Run program (input_of v) dir xs n a) (sym (append-nil (after_submatch atomic low high continuation s (Some t)))) next), is)
 

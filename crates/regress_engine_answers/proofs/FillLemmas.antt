@@ -21,7 +21,7 @@ use Rattle.regress_engine_search.specs.Search.{Suits}
 use Rattle.regress_engine_search.proofs.ReadyLemmas.{body-next}
 use Rattle.regress_engine_search.proofs.SkipLemmas.{place-lies}
 use Rattle.regress_engine_memory.specs.Flow.{Flow}
-use Rattle.regress_engine_memory.specs.Under.{IsFurther, IsOnward}
+use Rattle.regress_engine_memory.specs.Under.{IsFurther}
 use Rattle.regress_engine_memory.proofs.Onward.{flows-unreferring, room-less}
 use Rattle.regress_engine_memory.proofs.Taking.{advance-takes, one-takes, taking-unreferring}
 use Rattle.regress_engine_linear.specs.Answered.{AreExitsRight, IsAnswered, answer_at, exits_at, exits_value_at, one_at, one_beyond}
@@ -29,11 +29,12 @@ use Rattle.regress_engine_answers.specs.AnswerTables.{exits_by, told_by}
 use Rattle.regress_engine_answers.specs.Filled.{IsExitRight, IsFilled, IsPast, IsPlaced, IsRight, way_of}
 use Rattle.regress_engine_answers.specs.Walked.{value_at}
 use Rattle.regress_engine_linear.specs.Linear.{IsDue, IsLinear, too_long}
-use Rattle.regress_engine_linear.specs.Ranks.{Ranking, Lowers, AreUnboundedOrOnce, Inside, IsBeyond}
-use Rattle.regress_engine_linear.specs.RankTables.{Heights, forward_at, rank_at, ranking_of}
+use Rattle.regress_engine_linear.specs.Ranks.{Ranking, AreUnboundedOrOnce, Inside, IsBeyond}
+use Rattle.regress_engine_linear.specs.RankTables.{Heights, forward_at, outside_at, rank_at, ranking_of}
 use Rattle.regress_engine_answers.specs.declared.answers.Answers.{Answers}
 use Rattle.regress_engine_linear.proofs.AnswerLemmas.{answers-by, look-answers}
 use Rattle.regress_engine_linear.proofs.Beyond.{leads-beyond}
+use Rattle.regress_engine_linear.proofs.EndsBeyond.{atomic-lower}
 use Rattle.regress_engine_linear.proofs.ExitAnswers.{exits-told}
 use Rattle.regress_engine_linear.proofs.Formulas.{answers-are}
 use Rattle.regress_engine_linear.proofs.Running.{further-on}
@@ -41,6 +42,9 @@ use Rattle.regress_engine_linear.proofs.Within.{each-lies}
 use Rattle.regress_engine_answers.proofs.Ends.{atomic-answers}
 use Rattle.regress_engine_answers.proofs.WalkLemmas.{may-pass}
 use Rattle.regress_engine_linear.proofs.WorkLemmas.{bit-elsewhere, bit-here, room-end, exits-value-is, reads-there}
+
+below : (x y : ℕ) → x < suc y → (x ≡ y → ⊥) → x < y
+below x y less other = elim (cases_eq x y) [ inl e ↦ absurd (other e) | inr e ↦ omega (arith, less, e) ]
 
 module _ (flow : Flow) (h : Heights) (v : View) (all : AreOfKind v.kind v.units) (program : Program) (suits : Suits program v) (linear : IsLinear flow h program)
     (short : suc (length v.units) < too_long) where
@@ -87,9 +91,6 @@ module _ (flow : Flow) (h : Heights) (v : View) (all : AreOfKind v.kind v.units)
           by_rank : (rank_at h b ≡ k) ⊎ (rank_at h b ≡ k → ⊥) → IsRight flow h program v a b q × IsExitRight flow h program v a b q
           by_rank (inl e) = subst (λ x. IsRight flow h program v a b x × IsExitRight flow h program v a b x) (sym same) (due b (within, way, e))
           by_rank (inr other) = filled.right b q within way inside (inr (same, below (rank_at h b) k less other))
-            where
-              below : (x y : ℕ) → x < suc y → (x ≡ y → ⊥) → x < y
-              below x y less' other' = elim (cases_eq x y) [ inl e ↦ absurd (other' e) | inr e ↦ omega (arith, less', e) ]
 
   -- what reads characters elsewhere than at a place is never come to
   pub never-come : (a : Answers) (b o : ℕ) (i : Instruction) → Stands program b i → reads_character i ≡ true → (IsAtPlace (reading_of v) o → ⊥)
@@ -168,7 +169,7 @@ module _ (flow : Flow) (h : Heights) (v : View) (all : AreOfKind v.kind v.units)
         past (inr (same, less)) = inr (same, omega (arith, less, rank))
 
     each-told : (loops : List (ℕ × ℕ)) (groups : List Marks) (us : List Whole)
-        → AllByRecursion (λ u. IsBeyond r last dir (whole at o loops groups) u × (u.at < length h.ranks) × (forward_at h u.at ≡ forward_at h at)) us
+        → AllByRecursion (λ u. IsBeyond r last dir (whole at o loops groups) u × (u.at < length h.ranks) × (forward_at h u.at ≡ forward_at h at) × (outside_at h u.at ≡ outside_at h at)) us
         → AllByRecursion (λ u. u.offset ≤ last) us → AllByRecursion Told us
     each-told loops groups [] on inside = tt
     each-told loops groups (u ∷ us) on inside =
@@ -187,8 +188,8 @@ module _ (flow : Flow) (h : Heights) (v : View) (all : AreOfKind v.kind v.units)
         ))
 
     -- contents of a lookaround
-    inside-right : (kind : Submatch) → Inside r kind at → IsAnswered flow r program v (submatch_direction kind dir) (suc at) o (told (suc at) o)
-    inside-right kind inside = by_rank inside.rank
+    inside-right : (kind : Submatch) (continuation : ℕ) → Inside r kind at continuation → IsAnswered flow r program v (submatch_direction kind dir) (suc at) o (told (suc at) o)
+    inside-right kind continuation inside = by_rank inside.rank
       where
         turn : direction_of (forward_at h (suc at)) ≡ submatch_direction kind dir
         turn = inside.way ∙ ap (λ d. submatch_direction kind (direction_of d)) way
@@ -226,27 +227,10 @@ module _ (flow : Flow) (h : Heights) (v : View) (all : AreOfKind v.kind v.units)
         → IsAnswered flow r program v dir at o (value_at told program (input_of v) dir hs (code.submatch atomic low high continuation) at o)
     atomic-right hs low high continuation here =
         atomic-answers flow h v all program suits (may-pass flow h program v linear short) dir told Past past-right past-on hs low high continuation at o here
-        (linear.leaves at low high continuation atomic here) lies (inr (refl, by_inside inside.way inside.rank)) (λ q on. by_place q on lower.rank)
+        (linear.leaves at low high continuation atomic here) lies (inr (refl, atomic-lower r at continuation inside)) (λ q beyond. beyond)
       where
-        both : Lowers r 0 at continuation × Inside r atomic at
-        both = linear.ranked at (code.submatch atomic low high continuation) (calm-there at (code.submatch atomic low high continuation) here) here
-
-        lower : Lowers r 0 at continuation
-        lower = both.0
-
-        inside : Inside r atomic at
-        inside = both.1
-
-        by_inside : direction_of (forward_at h (suc at)) ≡ direction_of (forward_at h at)
-            → ((forward_at h (suc at) ≡ forward_at h at) × (rank_at h (suc at) < rank_at h at)) ⊎ ((forward_at h at ≡ true) × (forward_at h (suc at) ≡ false)) → rank_at h (suc at) < rank_at h at
-        by_inside turn (inl (same, less)) = less
-        by_inside turn (inr (onward, back)) =
-            let never : direction_of false ≡ direction_of true = sym (ap direction_of back) ∙ turn ∙ ap direction_of onward in absurd (cc never)
-
-        by_place : (q : ℕ) → IsOnward last dir o q → (1 ≤ 0) ⊎ (rank_at h continuation < rank_at h at) → Past continuation q
-        by_place q on (inl never) = absurd (omega (arith, never))
-        by_place q (inl same) (inr less) = inr (same, less)
-        by_place q (inr further) (inr less) = inl further
+        inside : Inside r atomic at continuation
+        inside = (linear.ranked at (code.submatch atomic low high continuation) (calm-there at (code.submatch atomic low high continuation) here) here).1
 
     -- What is worked out is so.
     pub value-right : (hs : List Marks) (i : Instruction) → Stands program at i → (reads_character i ≡ true → IsAtPlace (reading_of v) o)
@@ -255,7 +239,7 @@ module _ (flow : Flow) (h : Heights) (v : View) (all : AreOfKind v.kind v.units)
     value-right hs (code.submatch (lookaround negated backward) low high continuation) here reads =
         let (lower, inside) = linear.ranked at (code.submatch (lookaround negated backward) low high continuation) (calm-there at (code.submatch (lookaround negated backward) low high continuation) here) here in
         look-answers flow r v all program suits linear.flows linear.ranked dir negated backward low high continuation at o (told (suc at) o) (told continuation o) here
-        (inside-right (lookaround negated backward) inside) (to-right continuation o lower.within (lower.way ∙ way) lies (inr (refl, by_rank lower.rank)))
+        (inside-right (lookaround negated backward) continuation inside) (to-right continuation o lower.within (lower.way ∙ way) lies (inr (refl, by_rank lower.rank)))
       where
         by_rank : (1 ≤ 0) ⊎ (rank_at h continuation < rank_at h at) → rank_at h continuation < rank_at h at
         by_rank (inl never) = absurd (omega (arith, never))
@@ -369,7 +353,7 @@ module _ (flow : Flow) (h : Heights) (v : View) (all : AreOfKind v.kind v.units)
         right = λ b q within' way' inside past. right b q within' way' inside past;
         fresh = λ b q way' inside unpast.
             let other : b ≡ at → q ≡ o → ⊥ = λ e f. unpast (inr (f, let same = ap (rank_at h) e in omega (arith, same, rank))) in
-            let still : IsPast flow h program v forward k o b q → ⊥ = λ past. unpast (later b q past) in
+            let still : IsPast flow h program v forward k o b q → ⊥ = λ past. unpast (past-later forward k o b q past) in
             let known = filled.fresh b q way' inside still in
             (told-same b q other ∙ known.0, exits-same' b q other ∙ known.1);
         later = λ back b q onward.
@@ -391,10 +375,6 @@ module _ (flow : Flow) (h : Heights) (v : View) (all : AreOfKind v.kind v.units)
                   (subst (λ x. (i : Instruction) × Stands program at i × (reads_character i ≡ true → IsAtPlace (reading_of v) x)) (sym f) spot)
             ]
           ]
-
-          later : (b q : ℕ) → IsPast flow h program v forward k o b q → IsPast flow h program v forward (suc k) o b q
-          later b q (inl less) = inl less
-          later b q (inr (same, less)) = inr (same, omega (arith, less))
 
           here-right : IsRight flow h program v a' at o × IsExitRight flow h program v a' at o
           here-right =
@@ -421,9 +401,6 @@ module _ (flow : Flow) (h : Heights) (v : View) (all : AreOfKind v.kind v.units)
                   let room-same = ap (room last dir) same in
                   let lower : rank_at h b < k = below (rank_at h b) k less other in
                   keeps b q (λ e f. other (ap (rank_at h) e ∙ rank)) way' (omega (arith, room-same)) (filled.right b q within' way' inside (inr (same, lower)))
-                where
-                  below : (x y : ℕ) → x < suc y → (x ≡ y → ⊥) → x < y
-                  below x y less other = elim (cases_eq x y) [ inl e ↦ absurd (other e) | inr e ↦ omega (arith, less, e) ]
 
     -- So it is where an address is worked out by the instruction that stands there.
     pub worked : (hs : List Marks) (within : at < length h.ranks) → ((b : ℕ) → b < length h.ranks → rank_at h b ≡ k → b ≡ at) → (i : Instruction) → Stands program at i

@@ -1,5 +1,5 @@
 -- A table of answers is filled from one offset to the next, and both ways.
-use Rattle.std.specs.Prelude.{not, slice_get}
+use Rattle.std.specs.Prelude.{slice_get}
 use Rattle.std.proofs.Common.{◌≡◌, ℕ, suc, ◌+◌, ◌-◌, ◌^◌, ◌<◌, ◌≤◌, ◌⊎◌, inl, inr, Bool, true, false, if◌then◌else◌, length, get_or, Result, Ok, Err, OnOk, Some, refl, sym, ap, ◌∙◌, subst, arith}
 use Rattle.std.proofs.lemmas.Option.{slice_get-get_or}
 use Rattle.regress_meaning.specs.Meaning.{Direction, Forward, Backward}
@@ -22,25 +22,6 @@ use Rattle.regress_engine_answers.proofs.FillLemmas.{all-right}
 pub ok-two : {T E P Q R : Type 0} (r : Result T E) → (P → Q → R) → OnOk r P → OnOk r Q → OnOk r R
 ok-two (Ok x) both p q = both p q
 ok-two (Err e) both p q = tt
-
--- the other direction
-pub turned : (forward : Bool) → against (direction_of forward) ≡ direction_of (not forward)
-turned true = refl
-turned false = refl
-
--- the offset of a step
-pub offset-is : (forward : Bool) (last step o : ℕ) → (forward ≡ true → o ≡ last - step) → (forward ≡ false → o ≡ step) → o ≡ offset_of forward last step
-offset-is true last step o onward back = onward refl
-offset-is false last step o onward back = back refl
-
--- the offset that is worked out next is right behind
-pub step-behind : (v : View) (forward : Bool) (n step : ℕ) → n ≡ length v.units → step < n → IsBehind v forward (offset_of forward n step) (offset_of forward n (step + 1))
-step-behind v true n step end less = omega (arith, end, less)
-step-behind v false n step end less = omega arith
-
-pub step-within : (last n : ℕ) (forward : Bool) (step : ℕ) → n ≡ last → step ≤ n → offset_of forward n step ≤ last
-step-within last n true step end less = omega (arith, end)
-step-within last n false step end less = omega (arith, end, less)
 
 module _ (flow : Flow) (h : Heights) (v : View) (all : AreOfKind v.kind v.units) (program : Program) (suits : Suits program v) (linear : IsLinear flow h program)
     (short : suc (length v.units) < too_long) where

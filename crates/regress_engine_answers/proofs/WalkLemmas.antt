@@ -26,14 +26,11 @@ use Rattle.regress_engine_search.specs.Search.{Suits}
 use Rattle.regress_engine_search.proofs.InsnLemmas.{again-successors}
 use Rattle.regress_engine_search.proofs.ReadyLemmas.{simple-ready}
 use Rattle.regress_engine_search.proofs.SkipLemmas.{place-lies}
-use Rattle.regress_engine_memory.specs.Agreeing.{Agrees}
 use Rattle.regress_engine_memory.specs.Flow.{Flow, Flows}
-use Rattle.regress_engine_memory.specs.Under.{IsOnward}
-use Rattle.regress_engine_memory.proofs.Steady.{steady}
-use Rattle.regress_engine_memory.proofs.Onward.{ends-onward, flows-unreferring}
+use Rattle.regress_engine_memory.proofs.Onward.{flows-unreferring}
 use Rattle.regress_engine_memory.proofs.Taking.{taking-unreferring}
 use Rattle.regress_engine_memory.proofs.Unreferring.{advance-any, counted-any}
-use Rattle.regress_engine_linear.specs.Ranks.{Ranking, Ranks, Lowers, IsCycle, AreRunning, IsBeyond}
+use Rattle.regress_engine_linear.specs.Ranks.{Ranking, Ranks, IsCycle, AreRunning, IsBeyond}
 use Rattle.regress_engine_linear.specs.RankTables.{ArePlaced, Heights, forward_at, rank_at, ranking_of}
 use Rattle.regress_engine_linear.specs.Answered.{Ends, IsAnswered, ReadsAlong, exit_at, first_at, one_at}
 use Rattle.regress_engine_answers.specs.AnswerTables.{told_by}
@@ -42,10 +39,11 @@ use Rattle.regress_engine_linear.specs.Linear.{IsLinear, too_long}
 use Rattle.regress_engine_answers.specs.Walked.{AreExitsKnown, AreExitsTold, IsOnWay, MayPass, MayWalk, again_at, either_of, first_of, is_entered, led, marked, station_at, written_by}
 use Rattle.regress_engine_answers.specs.declared.answers.Answers.{Answers}
 use Rattle.regress_engine_answers.specs.declared.walker.Station.{Station}
-use Rattle.regress_engine_linear.proofs.ExitWays.{answer-lies, each-both, exit-is, ones-free}
+use Rattle.regress_engine_linear.proofs.ExitWays.{each-both, exit-is, ones-free}
 use Rattle.regress_engine_linear.proofs.Alike.{busy}
 use Rattle.regress_engine_linear.proofs.AnswerLemmas.{reads-on, run-onward}
 use Rattle.regress_engine_linear.proofs.Beyond.{each-weaker, leads-beyond}
+use Rattle.regress_engine_linear.proofs.EndsBeyond.{atomic-beyond, behind-beyond}
 use Rattle.regress_engine_linear.proofs.Running.{running-behind, running-inside, running-step, same-loop}
 use Rattle.regress_engine_linear.proofs.Within.{each-lies}
 use Rattle.regress_engine_linear.proofs.WorkLemmas.{reads-there}
@@ -130,23 +128,6 @@ written-fits program at (code.end_group j) k fits e = let same : j ≡ k = cc in
 written-fits program at (code.reset_group j) k fits e = let same : j ≡ k = cc in subst (λ n. n < program.groups) same fits
 written-fits program at _ k fits e = absurd (cc e)
 
-module _ (flow : Flow) (h : Heights) (v : View) (all : AreOfKind v.kind v.units) (program : Program) (suits : Suits program v) (may : MayPass flow h program v) where
-  -- where the contents of an atomic group end: no further back, and in the text
-  pub atomic-ends : (dir : Direction) (at o low high continuation : ℕ) (loops : List (ℕ × ℕ)) (groups : List Marks) → AreRunning flow (ranking_of h) program (length v.units) dir (whole at o loops groups)
-      → Stands program at (code.submatch atomic low high continuation) → ReadsAlong program v dir (whole at o loops groups ∷ []) → (m : ℕ) (q : Option Whole)
-      → Run program (input_of v) dir (whole (suc at) o loops groups ∷ []) m q → o ≤ length v.units → IfSome q (λ t. IsOnward (length v.units) dir o t.offset × (t.offset ≤ length v.units))
-  atomic-ends dir at o low high continuation loops groups running here along m q run lies =
-      let s : Whole = whole (suc at) o loops groups in
-      let anew = (may.closed at (code.submatch atomic low high continuation) running.calm here).0 in
-      let alone : Agrees flow s s = record { calm = anew.calm; at = refl; offset = refl; size = refl; loops = λ id l. refl } in
-      both q (ends-onward flow (length v.units) program (input_of v) may.closed run o (alone, tt) (inl refl, tt) (steady v all program suits dir (s ∷ []) (λ u j met. along u j (inside here met))))
-      (answer-lies v all program suits may.unreferring run (lies, tt) (λ u j met. along u j (inside here met)))
-    where
-      both : (q : Option Whole) → IfSome q (λ t. IsOnward (length v.units) dir o t.offset) → IfSome q (λ t. t.offset ≤ length v.units)
-          → IfSome q (λ t. IsOnward (length v.units) dir o t.offset × (t.offset ≤ length v.units))
-      both None on lies = tt
-      both (Some t) on lies = (on, lies)
-
 module _ (flow : Flow) (h : Heights) (v : View) (all : AreOfKind v.kind v.units) (program : Program) (suits : Suits program v) (may : MayPass flow h program v) (dir : Direction)
     (told : ℕ → ℕ → Bool) (Past : (at o : ℕ) → Type 0)
     (right : (at o : ℕ) → at < length h.ranks → o ≤ length v.units → direction_of (forward_at h at) ≡ dir → Past at o → IsAnswered flow (ranking_of h) program v dir at o (told at o))
@@ -177,7 +158,7 @@ module _ (flow : Flow) (h : Heights) (v : View) (all : AreOfKind v.kind v.units)
 
     -- what is so of each state that the instruction leads to
     abbrev Good : Whole → Type 0
-    Good u = Live u × (IsBeyond r last dir s u × Lies u)
+    Good u = Live u × (IsBeyond r last dir s u × Lies u) × (r.outside u.at ≡ r.outside s.at)
 
     -- a state at an address and an offset, with some groups, whose run has the answer
     abbrev Comes : (at o : ℕ) → List Marks → Type 0
@@ -382,14 +363,14 @@ module _ (flow : Flow) (h : Heights) (v : View) (all : AreOfKind v.kind v.units)
         reads = way.reads s i now here
 
         On : Whole → Type 0
-        On u = IsBeyond r last dir s u × (u.at < length h.ranks) × (r.forward u.at ≡ r.forward at)
+        On u = IsBeyond r last dir s u × (u.at < length h.ranks) × (r.forward u.at ≡ r.forward at) × (r.outside u.at ≡ r.outside at)
 
         In : Whole → Type 0
         In u = u.offset ≤ last
 
         good : AllByRecursion GoodHere us
         good =
-            each-weaker (λ u. Live u × (On u × In u)) GoodHere (λ u both. (both.0, (both.1.0.0, (both.1.0.1, both.1.1)))) us
+            each-weaker (λ u. Live u × (On u × In u)) GoodHere (λ u both. (both.0, (both.1.0.0, (both.1.0.1, both.1.1)), both.1.0.3)) us
             (each-both Live (λ u. On u × In u) us (running-step flow r v all program suits may.closed may.ranked dir s i way.running here plain reads)
             (each-both On In us (leads-beyond flow r v all program suits may.closed may.ranked dir s i way.running.calm here plain reads)
             (each-lies v all program suits dir i s (may.unreferring at i here) here plain way.within (place-here i here))))
@@ -400,7 +381,7 @@ module _ (flow : Flow) (h : Heights) (v : View) (all : AreOfKind v.kind v.units)
             (m, run, reads-on flow r v all program suits may.closed may.ranked dir i s here plain way.reads)
 
     comes-way : (b q : ℕ) (ms : List Marks) → Comes w s p b q ms → IsOnWay flow h program v dir w b q ms
-    comes-way b q ms (loops, (m, run, reads), (live, (beyond, lies))) =
+    comes-way b q ms (loops, (m, run, reads), (live, (beyond, lies), same)) =
         record { loops = loops; steps = m; running = live; there = lies.0; within = lies.1; reads = reads; run = run }
 
     -- at what is matched by itself
@@ -408,20 +389,14 @@ module _ (flow : Flow) (h : Heights) (v : View) (all : AreOfKind v.kind v.units)
       abbrev look : Instruction
       look = code.submatch kind low high continuation
 
-      -- behind it, at its offset or further
-      good : (q : ℕ) → IsOnward last dir o q → q ≤ last → (ms : List Marks) → Good w s p (whole continuation q way.loops ms)
-      good q on lies ms = (
-        running-behind flow r v all program suits may.closed may.ranked dir kind low high continuation s way.running here q ms on,
-        (by_place on lowers.rank, (lowers.within, lies)),
-      )
-        where
-          lowers : Lowers r 0 at continuation
-          lowers = (may.ranked at look way.running.calm here).0
-
-          by_place : IsOnward last dir o q → (1 ≤ 0) ⊎ (r.rank continuation < r.rank at) → IsBeyond r last dir s (whole continuation q way.loops ms)
-          by_place on (inl never) = absurd (omega (arith, never))
-          by_place (inl same) (inr less) = inr (same, less)
-          by_place (inr further) (inr less) = inl further
+      -- behind it, beyond
+      good : (q : ℕ) → q ≤ last → (ms : List Marks) → IsBeyond r last dir s (whole continuation q way.loops ms) → Good w s p (whole continuation q way.loops ms)
+      good q lies ms beyond =
+          let lowers = (may.ranked at look way.running.calm here).0 in (
+            running-behind flow r v all program suits may.closed may.ranked dir kind low high continuation s way.running here q ms beyond,
+            (beyond, (lowers.within, lies)),
+            lowers.same,
+          )
 
       -- a run of the contents, and the rest behind it
       look-runs : (q : Option Whole) × ((m : ℕ) × Run program input (submatch_direction kind dir) (onward s ∷ []) m q) × Rest w s p (after_submatch kind low high continuation s q)
@@ -451,12 +426,19 @@ module _ (flow : Flow) (h : Heights) (v : View) (all : AreOfKind v.kind v.units)
         run = run;
       }
 
+    -- behind a lookaround, at its offset
+    good-look : (negated backward : Bool) (low high continuation : ℕ) → Stands program at (code.submatch (lookaround negated backward) low high continuation) → (ms : List Marks)
+        → Good w s p (whole continuation o way.loops ms)
+    good-look negated backward low high continuation here ms =
+        good (lookaround negated backward) low high continuation here o way.within ms
+        (behind-beyond flow r v all program suits may.closed may.ranked (lookaround negated backward) dir low high continuation s way.running.calm here o ms refl)
+
     -- past a lookaround
     look-past : (negated backward : Bool) (low high continuation : ℕ) → Stands program at (code.submatch (lookaround negated backward) low high continuation)
         → is_entered (code.submatch (lookaround negated backward) low high continuation) ≡ false → Comes w s p continuation o gs
     look-past negated backward low high continuation here past' =
         let (q, inner, rest) = look-runs (lookaround negated backward) low high continuation here in
-        by_answer negated q here past' (good (lookaround negated backward) low high continuation here o (inl refl) way.within) rest
+        by_answer negated q here past' (good-look negated backward low high continuation here) rest
       where
         by_answer : (negated : Bool) (q : Option Whole) → Stands program at (code.submatch (lookaround negated backward) low high continuation)
             → is_entered (code.submatch (lookaround negated backward) low high continuation) ≡ false → ((ms : List Marks) → Good w s p (whole continuation o way.loops ms))
@@ -484,7 +466,7 @@ module _ (flow : Flow) (h : Heights) (v : View) (all : AreOfKind v.kind v.units)
         by_answer None m inner rest = absurd (none-left w s p rest)
         by_answer (Some t) m inner rest =
             let ms : List Marks = mixed 0 low high t.groups gs in
-            let fine = good (lookaround false backward) low high continuation here o (inl refl) way.within ms in (
+            let fine = good-look false backward low high continuation here ms in (
               t,
               subst (λ d. IsOnWay flow h program v d t (suc at) o gs) (turned backward) (anew (lookaround false backward) low high continuation here t m inner),
               comes-way continuation o ms (way.loops, rest, fine),
@@ -493,20 +475,20 @@ module _ (flow : Flow) (h : Heights) (v : View) (all : AreOfKind v.kind v.units)
 
     -- into the contents of one, and behind it
     pub atomic-into : (low high continuation : ℕ) → Stands program at (code.submatch atomic low high continuation)
-        → (t : Whole) × IsOnWay flow h program v dir t (suc at) o gs × IsOnWay flow h program v dir w continuation t.offset (mixed 0 low high t.groups gs) × IsOnward last dir o t.offset
+        → (t : Whole) × IsOnWay flow h program v dir t (suc at) o gs × IsOnWay flow h program v dir w continuation t.offset (mixed 0 low high t.groups gs) × Past continuation t.offset
     atomic-into low high continuation here =
-        let (q, (m, inner), rest) = look-runs atomic low high continuation here in by_answer q m inner rest (atomic-ends flow h v all program suits may dir at o low high continuation way.loops gs way.running here way.reads m q inner way.within)
+        let (q, (m, inner), rest) = look-runs atomic low high continuation here in by_answer q m inner rest (atomic-beyond flow r v all program suits may.closed may.ranked may.unreferring dir low high continuation s way.running way.within here m q inner (λ u j met. way.reads u j (inside here met)))
       where
         by_answer : (q : Option Whole) (m : ℕ) → Run program input dir (onward s ∷ []) m q → Rest w s p (after_submatch atomic low high continuation s q)
-            → IfSome q (λ t. IsOnward last dir o t.offset × (t.offset ≤ last))
-            → (t : Whole) × IsOnWay flow h program v dir t (suc at) o gs × IsOnWay flow h program v dir w continuation t.offset (mixed 0 low high t.groups gs) × IsOnward last dir o t.offset
+            → IfSome q (λ t. ((ms : List Marks) → IsBeyond r last dir s (whole continuation t.offset way.loops ms)) × (t.offset ≤ last))
+            → (t : Whole) × IsOnWay flow h program v dir t (suc at) o gs × IsOnWay flow h program v dir w continuation t.offset (mixed 0 low high t.groups gs) × Past continuation t.offset
         by_answer None m inner rest on = absurd (none-left w s p rest)
         by_answer (Some t) m inner rest (on, lies) =
             let ms : List Marks = mixed 0 low high t.groups gs in (
               t,
               anew atomic low high continuation here t m inner,
-              comes-way continuation t.offset ms (way.loops, rest, good atomic low high continuation here t.offset on lies ms),
-              on,
+              comes-way continuation t.offset ms (way.loops, rest, good atomic low high continuation here t.offset lies ms (on ms)),
+              past s (whole continuation t.offset way.loops ms) p (on ms),
             )
 
     -- From each state but that of the goal the way leads on, but into the contents of a lookaround.
@@ -520,9 +502,10 @@ module _ (flow : Flow) (h : Heights) (v : View) (all : AreOfKind v.kind v.units)
     -- it stays on its way, and comes nearer
     pub on-way : (i : Instruction) → Stands program at i → is_entered i ≡ false → (x : Station) → led told program input dir hs i at o ≡ Some x
         → IsOnWay flow h program v dir w x.at x.offset (marked dir i o gs) × (ls : List (ℕ × ℕ)) × IsBeyond r last dir s (whole x.at x.offset ls (marked dir i o gs))
+        × (r.outside x.at ≡ r.outside at)
     on-way i here out x e =
         let comes = subst (λ (y : Option Station). Leads w s p y (marked dir i o gs)) e (leads-on i here other out) in
-        (comes-way x.at x.offset (marked dir i o gs) comes, comes.0, comes.2.1.0)
+        (comes-way x.at x.offset (marked dir i o gs) comes, comes.0, comes.2.1.0, comes.2.2)
       where
         other : i ≡ code.goal → ⊥
         other is = let never : None ≡ Some x = sym (ap (λ j. led told program input dir hs j at o) is) ∙ e in absurd (cc never)
@@ -550,7 +533,3 @@ module _ (flow : Flow) (h : Heights) (v : View) (all : AreOfKind v.kind v.units)
     ready-here count i here simple =
         simple-ready program v suits i (whole at o [] hs) here simple count
         (λ reads. reads-there v i (whole at o [] hs) (may.unreferring at i here) (way.reads s i now here reads).0)
-
--- a rank is less than their number
-pub rank-low : (h : Heights) → ArePlaced h (length h.ranks) → (at : ℕ) → at < length h.ranks → rank_at h at < length h.order
-rank-low h placed at there = slice_get_within h.order (rank_at h at) at (placed at there)

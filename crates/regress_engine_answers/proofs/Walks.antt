@@ -1,6 +1,6 @@
 -- A walk along what is told to have an answer goes on, comes nearer to its end, and has its answer there.
-use Rattle.std.specs.Prelude.{nat_lt, nat_le}
-use Rattle.std.proofs.Common.{◌≡◌, inl, inr, ℕ, suc, ◌+◌, ◌*◌, ◌<◌, ◌≤◌, ◌&&◌, Bool, true, false, List, [], ◌∷◌, length, Option, None, Some, if◌then◌else◌, refl, sym, ap, ◌∙◌, subst, arith}
+use Rattle.std.specs.Prelude.{nat_lt, nat_le, not}
+use Rattle.std.proofs.Common.{◌≡◌, inl, inr, ℕ, suc, ◌+◌, ◌-◌, ◌*◌, ◌<◌, ◌≤◌, ◌&&◌, Bool, true, false, List, [], ◌∷◌, length, Option, None, Some, if◌then◌else◌, refl, sym, ap, ◌∙◌, subst, arith}
 use Rattle.std.proofs.lemmas.Bool.{and_parts, ltb-true}
 use Rattle.std.proofs.lemmas.Bool.Decides.{nat_tests}
 use Rattle.std.proofs.lemmas.Nat.{mul-le}
@@ -22,28 +22,23 @@ use Rattle.regress_engine_search.specs.Search.{Suits}
 use Rattle.regress_engine_search.specs.Answering.{IsAnswer}
 use Rattle.regress_engine_search.proofs.SkipLemmas.{place-lies}
 use Rattle.regress_engine_memory.specs.Flow.{Flow}
-use Rattle.regress_engine_memory.specs.Under.{IsOnward}
 use Rattle.regress_engine_memory.proofs.Onward.{room-less}
-use Rattle.regress_engine_linear.specs.Ranks.{AreRunning, IsBeyond}
-use Rattle.regress_engine_linear.specs.RankTables.{Heights, forward_at, rank_at, ranking_of}
+use Rattle.regress_engine_linear.specs.Ranks.{AreRunning, Inside, IsBeyond, Lowers, asked_less}
+use Rattle.regress_engine_linear.specs.RankTables.{Heights, forward_at, outside_at, rank_at, ranking_of}
 use Rattle.regress_engine_linear.specs.Answered.{Ends, IsAnswered, ReadsAlong, is_single}
 use Rattle.regress_engine_answers.specs.AnswerTables.{told_by}
-use Rattle.regress_engine_linear.specs.Linear.{AreLoopFree, leads_through, may_stand_inside}
-use Rattle.regress_engine_answers.specs.Walked.{AreExitsTold, IsAhead, IsInside, IsOnWay, MayWalk, Walk, Walks, entered, far, frame, goes, inside_forward, is_entered, led, marked, offset_behind, returns, station}
+use Rattle.regress_engine_linear.specs.Linear.{AreLoopFree, HaveRanks, leads_through}
+use Rattle.regress_engine_answers.specs.Walked.{AreExitsTold, GoesOutside, IsInside, IsOnWay, MayWalk, Walk, Walks, are_atomic, entered, far, frame, goes, inside_forward, is_entered, led, marked, offset_behind, returns, station, to_end}
 use Rattle.regress_engine_answers.specs.declared.answers.Answers.{Answers}
 use Rattle.regress_engine_answers.specs.declared.walker.Frame.{Frame}
 use Rattle.regress_engine_answers.specs.declared.walker.Station.{Station}
+use Rattle.regress_engine_linear.proofs.EndsBeyond.{atomic-lower}
+use Rattle.regress_engine_linear.proofs.PassageLemmas.{fits-inside}
 use Rattle.regress_engine_linear.proofs.MixedLemmas.{mixed-length, mixed-outside, mixed-same}
 use Rattle.regress_engine_linear.proofs.FromStart.{running-first}
+use Rattle.regress_engine_linear.proofs.WorkLemmas.{rank-low}
 use Rattle.regress_engine_answers.proofs.Through.{kept-on, through}
-use Rattle.regress_engine_answers.proofs.WalkLemmas.{atomic-into, place-here, ready-here, at-goal, ends-way, exits-told-of, look-into, on-way, rank-low, told-there}
-
--- what stands inside of contents ends inside, and its groups are inside
-fits-inside : (nests : Bool) (kind : Submatch) (at low high continuation first last end : ℕ) → leads_through nests first last end at (code.submatch kind low high continuation) ≡ true
-    → (continuation < end) × (first ≤ low) × (high ≤ last)
-fits-inside nests kind at low high continuation first last end leads =
-    let parts = (and_parts (may_stand_inside nests kind) (nat_lt (suc at) end && ((nat_lt at continuation && nat_lt continuation end) && (nat_le first low && nat_le high last))) leads).1 in
-    grind (arith, nat_tests, parts)
+use Rattle.regress_engine_answers.proofs.WalkLemmas.{atomic-into, place-here, ready-here, at-goal, ends-way, exits-told-of, look-into, on-way, told-there}
 
 station-is : (at o : ℕ) (x : Station) → Some (station at o) ≡ Some x → station at o ≡ x
 station-is at o x e = cc
@@ -78,9 +73,23 @@ module _ (flow : Flow) (h : Heights) (v : View) (all : AreOfKind v.kind v.units)
   pub walk-way : (start : ℕ) (frames : List Frame) (forward : Bool) (at o : ℕ) (gs : List Marks) → Goes start frames forward at o gs → (w : Whole) × Way forward w at o gs
   walk-way start [] true at o gs (is, (w, way, ends)) = (w, way)
   walk-way start [] false at o gs (is, (w, way, ends)) = absurd (cc is)
-  walk-way start (f ∷ fs) forward at o gs (w, before, way, inside, ahead, rest) = (w, way)
+  walk-way start (f ∷ fs) forward at o gs (w, before, way, inside, outside, rest) = (w, way)
 
-  nearer : (s u : Whole) → IsBeyond (ranking_of h) (length v.units) Forward s u → u.at < length h.ranks → left [] u.at u.offset < left [] s.at s.offset
+  -- outside of lookarounds it is read forward
+  walk-forward : (start : ℕ) (frames : List Frame) (forward : Bool) (at o : ℕ) (gs : List Marks) → Goes start frames forward at o gs → are_atomic frames ≡ true → forward ≡ true
+  walk-forward start [] forward at o gs (is, (w, way, ends)) plain = is
+  walk-forward start (f ∷ fs) forward at o gs (w, before, way, inside, outside, rest) plain =
+      let (stays, others) = and_parts (not f.returns) (are_atomic fs) plain in
+      (outside (not-so f.returns stays)).0 ∙ walk-forward start fs f.forward f.continuation (offset_behind f w.offset) (mixed 0 inside.first inside.last w.groups before) rest others
+    where
+      not-so : (b : Bool) → not b ≡ true → b ≡ false
+      not-so true e = absurd (cc e)
+      not-so false e = refl
+
+  abbrev near : (at o : ℕ) → ℕ
+  near at o = to_end h v at o
+
+  nearer : (s u : Whole) → IsBeyond (ranking_of h) (length v.units) Forward s u → u.at < length h.ranks → near u.at u.offset < near s.at s.offset
   nearer s u beyond there = by_way beyond
     where
       N : ℕ
@@ -95,16 +104,20 @@ module _ (flow : Flow) (h : Heights) (v : View) (all : AreOfKind v.kind v.units)
           omega (arith, more, one, low)
       by_way (inr (same, lower)) = let e = ap (λ x. room last Forward x * N) same in omega (arith, e, lower)
 
-  -- the offset is no further back
-  onward-room : (forward : Bool) (s u : Whole) → IsBeyond (ranking_of h) last (direction_of forward) s u → forward ≡ true → room last Forward u.offset ≤ room last Forward s.offset
-  onward-room false s u beyond e = absurd (cc e)
-  onward-room true s u (inl further) e = let less = room-less last Forward s.offset u.offset further in omega (arith, less)
-  onward-room true s u (inr (same, lower)) e = let even = ap (room last Forward) same in omega (arith, even)
+  -- inside of contents too
+  nearer-inside : (start : ℕ) (f : Frame) (fs : List Frame) (forward : Bool) (at o : ℕ) (gs : List Marks) → Goes start (f ∷ fs) forward at o gs → (u : Whole)
+      → IsBeyond (ranking_of h) last (direction_of forward) (whole at o [] []) u → u.at < length h.ranks → at < u.at → u.at < f.continuation
+      → left (f ∷ fs) u.at u.offset < left (f ∷ fs) at o
+  nearer-inside start f fs forward at o gs walks u beyond there more less = by_kind (are_atomic (f ∷ fs)) refl
+    where
+      deep : ℕ
+      deep = far h v fs f.continuation f.offset
 
-  onward-offset : (forward : Bool) (o q : ℕ) → IsOnward last (direction_of forward) o q → forward ≡ true → room last Forward q ≤ room last Forward o
-  onward-offset false o q on e = absurd (cc e)
-  onward-offset true o q (inl same) e = let even = ap (room last Forward) same in omega (arith, even)
-  onward-offset true o q (inr further) e = let less = room-less last Forward o q further in omega (arith, less)
+      by_kind : (b : Bool) → are_atomic (f ∷ fs) ≡ b
+          → (if b then near u.at u.offset else deep + (f.continuation - u.at)) < (if b then near at o else deep + (f.continuation - at))
+      by_kind true plain =
+          nearer (whole at o [] []) u (subst (λ b. IsBeyond (ranking_of h) last (direction_of b) (whole at o [] []) u) (walk-forward start (f ∷ fs) forward at o gs walks plain) beyond) there
+      by_kind false plain = omega (arith, more, less)
 
   -- Where an instruction leads on the walk goes on, and comes nearer.
   walk-on : (start : ℕ) (frames : List Frame) (forward : Bool) (at o : ℕ) (gs hs : List Marks) → Goes start frames forward at o gs → (i : Instruction) → Stands program at i → is_entered i ≡ false
@@ -112,17 +125,17 @@ module _ (flow : Flow) (h : Heights) (v : View) (all : AreOfKind v.kind v.units)
       → Goes start frames forward x.at x.offset (marked (direction_of forward) i o gs) × (left frames x.at x.offset < left frames at o)
   walk-on start [] false at o gs hs (is, (w, way, ends)) i here out x e = absurd (cc is)
   walk-on start [] true at o gs hs (is, (w, way, ends)) i here out x e =
-      let (on, ls, beyond) = on-way flow h v all program suits may.pass Forward (told_by a) Anywhere (right Forward) (past Forward) w at o gs way tt hs i here out x e in (
+      let (on, ls, beyond, same) = on-way flow h v all program suits may.pass Forward (told_by a) Anywhere (right Forward) (past Forward) w at o gs way tt hs i here out x e in (
         (refl, (w, on, ends)),
         nearer (whole at o way.loops gs) (whole x.at x.offset ls (marked Forward i o gs)) beyond on.there,
       )
-  walk-on start (f ∷ fs) forward at o gs hs (w, before, way, inside, ahead, rest) i here out x e =
+  walk-on start (f ∷ fs) forward at o gs hs (w, before, way, inside, outside, rest) i here out x e =
       let dir = direction_of forward in
       let leads = inside.free.leads at i inside.after inside.ahead here in
       let (more, less) = through inside.nests inside.first inside.last f.continuation (told_by a) program (input_of v) dir hs at o x i leads e in
-      let (on, ls, beyond) = on-way flow h v all program suits may.pass dir (told_by a) Anywhere (right dir) (past dir) w at o gs way tt hs i here out x e in
+      let (on, ls, beyond, same) = on-way flow h v all program suits may.pass dir (told_by a) Anywhere (right dir) (past dir) w at o gs way tt hs i here out x e in
       let after = inside.after in
-      let still : IsInside h program f.continuation x.at (marked dir i o gs) before = record {
+      let still : IsInside program f.continuation x.at (marked dir i o gs) before = record {
         look = inside.look;
         first = inside.first;
         last = inside.last;
@@ -132,57 +145,81 @@ module _ (flow : Flow) (h : Heights) (v : View) (all : AreOfKind v.kind v.units)
         ahead = less;
         kept = kept-on inside.nests inside.first inside.last f.continuation dir at o i gs before leads inside.kept;
       } in
-      let nearby : IsAhead last f forward x.offset = λ away. (
-        (ahead away).0,
-        λ is.
-            let far-off = (ahead away).1 is in
-            let step = onward-room forward (whole at o way.loops gs) (whole x.at x.offset ls (marked dir i o gs)) beyond ((ahead away).0 ∙ is) in
-            omega (arith, far-off, step),
-      ) in
-      ((w, before, on, still, nearby, rest), omega (arith, more, less))
+      let outwards : GoesOutside h f forward x.at = λ away. ((outside away).0, same ∙ (outside away).1) in (
+        (w, before, on, still, outwards, rest),
+        nearer-inside start f fs forward at o gs (w, before, way, inside, outside, rest) (whole x.at x.offset ls (marked dir i o gs)) beyond on.there more less,
+      )
 
   -- Into contents the walk goes on, and comes nearer.
   module _ (start : ℕ) (forward : Bool) (at o : ℕ) (gs : List Marks) (kind : Submatch) (low high continuation : ℕ) (here : Stands program at (code.submatch kind low high continuation)) where
     abbrev new : Frame
     new = frame continuation o forward (returns kind)
 
-    -- a way into them, and one behind them, no further back
+    -- a way into them, and one behind them
     abbrev Into : Whole → Type 0
     Into w = (t : Whole) × Way (inside_forward kind forward) t (suc at) o gs × Way forward w continuation (offset_behind new t.offset) (mixed 0 low high t.groups gs)
-        × (forward ≡ true → room last Forward (offset_behind new t.offset) ≤ room last Forward o)
 
-    walk-into : (frames : List Frame) → Goes start frames forward at o gs → (nests : Bool) → AreLoopFree h program nests at low high continuation → ((w : Whole) → Way forward w at o gs → Into w)
-        → Goes start (new ∷ frames) (inside_forward kind forward) (suc at) o gs × (left (new ∷ frames) (suc at) o < left frames at o)
-    walk-into frames walks nests free into = by_frames frames walks
+    -- Ranks enough lie between, or those of an atomic group's contents are lower.
+    abbrev HaveRoom : Submatch → Type 0
+    HaveRoom (lookaround negated backward) = HaveRanks h at continuation
+    HaveRoom atomic = rank_at h (suc at) < rank_at h at
+
+    -- it ends before the innermost contents do
+    abbrev EndsInside : List Frame → Type 0
+    EndsInside [] = Unit {0}
+    EndsInside (f ∷ fs) = continuation < f.continuation
+
+    nearer-into : (kind : Submatch) → HaveRoom kind → suc at < continuation → (frames : List Frame) → EndsInside frames
+        → left (frame continuation o forward (returns kind) ∷ frames) (suc at) o < left frames at o
+    nearer-into (lookaround negated backward) ranks some [] less = omega (arith, ranks, some)
+    nearer-into atomic lower some [] less = omega (arith, lower)
+    nearer-into (lookaround negated backward) ranks some (f ∷ fs) less = by_kind (are_atomic (f ∷ fs))
       where
-        inside-now : IsInside h program continuation (suc at) gs gs
+        by_kind : (b : Bool) → (if b then near continuation o else far h v fs f.continuation f.offset + (f.continuation - continuation)) + (continuation - suc at)
+            < (if b then near at o else far h v fs f.continuation f.offset + (f.continuation - at))
+        by_kind true = omega (arith, ranks, some)
+        by_kind false = omega (arith, less, some)
+    nearer-into atomic lower some (f ∷ fs) less = by_kind (are_atomic (f ∷ fs)) refl
+      where
+        by_kind : (b : Bool) → are_atomic (f ∷ fs) ≡ b → (if b then near (suc at) o else far h v (f ∷ fs) continuation o + (continuation - suc at))
+            < (if b then near at o else far h v fs f.continuation f.offset + (f.continuation - at))
+        by_kind true e = omega (arith, lower)
+        by_kind false e =
+            let same = ap (λ (b : Bool). if b then near continuation o else far h v fs f.continuation f.offset + (f.continuation - continuation)) e in
+            omega (arith, less, some, same)
+
+    walk-into : (frames : List Frame) → Goes start frames forward at o gs → (nests : Bool) → AreLoopFree program nests at low high continuation → HaveRoom kind
+        → outside_at h continuation ≡ outside_at h at → (kind ≡ atomic → outside_at h (suc at) ≡ continuation) → ((w : Whole) → Way forward w at o gs → Into w)
+        → Goes start (new ∷ frames) (inside_forward kind forward) (suc at) o gs × (left (new ∷ frames) (suc at) o < left frames at o)
+    walk-into frames walks nests free ranks same leads-out into = by_frames frames walks
+      where
+        inside-now : IsInside program continuation (suc at) gs gs
         inside-now = record { look = at; first = low; last = high; nests = nests; free = free; after = omega arith; ahead = free.some; kept = (refl, λ k out. refl) }
 
-        ahead-new : (kind : Submatch) → IsAhead last (frame continuation o forward (returns kind)) (inside_forward kind forward) o
-        ahead-new (lookaround negated backward) away = absurd (cc away)
-        ahead-new atomic away = (refl, λ is. omega arith)
+        outside-new : (kind : Submatch) → (kind ≡ atomic → outside_at h (suc at) ≡ continuation)
+            → GoesOutside h (frame continuation o forward (returns kind)) (inside_forward kind forward) (suc at)
+        outside-new (lookaround negated backward) out away = absurd (cc away)
+        outside-new atomic out away = (refl, out refl)
 
         by_base : forward ≡ true → (w : Whole) → Way forward w at o gs → EndsIn program (input_of v) start (Some w)
             → Goes start (new ∷ []) (inside_forward kind forward) (suc at) o gs × (left (new ∷ []) (suc at) o < left [] at o)
         by_base is w way ends =
-            let (t, inner, outer, on) = into w way in
-            let ranks = free.ranks in
-            let some = free.some in (
-              (t, gs, inner, inside-now, ahead-new kind, (is, (w, subst (λ b. IsOnWay flow h program v (direction_of b) w continuation (offset_behind new t.offset) (mixed 0 low high t.groups gs)) is outer, ends))),
-              omega (arith, ranks, some),
+            let (t, inner, outer) = into w way in (
+              (t, gs, inner, inside-now, outside-new kind leads-out, (is, (w, subst (λ b. IsOnWay flow h program v (direction_of b) w continuation (offset_behind new t.offset) (mixed 0 low high t.groups gs)) is outer, ends))),
+              nearer-into kind ranks free.some [] tt,
             )
 
         by_frames : (frames : List Frame) → Goes start frames forward at o gs
             → Goes start (new ∷ frames) (inside_forward kind forward) (suc at) o gs × (left (new ∷ frames) (suc at) o < left frames at o)
         by_frames [] (is, (w, way, ends)) = by_base is w (subst (λ b. IsOnWay flow h program v (direction_of b) w at o gs) (sym is) way) ends
-        by_frames (f ∷ fs) (w, before, way, inside, ahead, rest) =
-            let (t, inner, outer, on) = into w way in
+        by_frames (f ∷ fs) (w, before, way, inside, outside, rest) =
+            let (t, inner, outer) = into w way in
             let leads = inside.free.leads at (code.submatch kind low high continuation) inside.after inside.ahead here in
             let within = fits-inside inside.nests kind at low high continuation inside.first inside.last f.continuation leads in
             let (less, from, to) = within in
             let some = free.some in
             let after = inside.after in
-            let still : IsInside h program f.continuation continuation (mixed 0 low high t.groups gs) before = record {
+            let still : IsInside program f.continuation continuation (mixed 0 low high t.groups gs) before = record {
               look = inside.look;
               first = inside.first;
               last = inside.last;
@@ -195,16 +232,15 @@ module _ (flow : Flow) (h : Heights) (v : View) (all : AreOfKind v.kind v.units)
                 λ k out. mixed-outside low high 0 k t.groups gs (λ x y. out (omega (arith, x, from)) (omega (arith, y, to))) ∙ inside.kept.1 k out,
               );
             } in
-            let nearby : IsAhead last f forward (offset_behind new t.offset) =
-            λ away. ((ahead away).0, λ is. let far-off = (ahead away).1 is in let step = on ((ahead away).0 ∙ is) in omega (arith, far-off, step)) in (
-              (t, gs, inner, inside-now, ahead-new kind, (w, before, outer, still, nearby, rest)),
-              omega (arith, less, some),
+            let outwards : GoesOutside h f forward continuation = λ away. ((outside away).0, same ∙ (outside away).1) in (
+              (t, gs, inner, inside-now, outside-new kind leads-out, (w, before, outer, still, outwards, rest)),
+              nearer-into kind ranks free.some (f ∷ fs) less,
             )
 
   -- Where contents end the walk goes on behind them, and comes nearer.
   walk-out : (start : ℕ) (f : Frame) (fs : List Frame) (forward : Bool) (at o : ℕ) (gs : List Marks) → Goes start (f ∷ fs) forward at o gs → Stands program at code.goal
       → Goes start fs f.forward f.continuation (offset_behind f o) gs × (left fs f.continuation (offset_behind f o) < left (f ∷ fs) at o)
-  walk-out start f fs forward at o gs (w, before, way, inside, ahead, rest) here =
+  walk-out start f fs forward at o gs (w, before, way, inside, outside, rest) here =
       let dir = direction_of forward in
       let same = at-goal flow h v all program suits may.pass dir (told_by a) Anywhere (right dir) (past dir) w at o gs way tt gs here in
       let groups : w.groups ≡ gs = ap (λ (u : Whole). u.groups) same in
@@ -214,17 +250,29 @@ module _ (flow : Flow) (h : Heights) (v : View) (all : AreOfKind v.kind v.units)
       (subst (Goes start fs f.forward f.continuation (offset_behind f w.offset))
       (ap (λ ms. mixed 0 inside.first inside.last ms before) groups
       ∙ mixed-same inside.first inside.last 0 gs before inside.kept.0 (λ k out. inside.kept.1 k (λ low high. out (omega (arith, low)) (omega (arith, high))))) rest) in
-      let within = inside.ahead in
-      let less = behind-less fs on in
-      (on, omega (arith, within, less))
+      (on, by_kind f.returns (are_atomic fs) refl refl (walk-way start fs f.forward f.continuation (offset_behind f o) gs on).1.there)
     where
-      by_returns : (b : Bool) → f.returns ≡ b → f.forward ≡ true → room last Forward (if b then f.offset else o) * length h.order ≤ room last Forward f.offset * length h.order
-      by_returns true e is = omega arith
-      by_returns false e is = mul-le (room last Forward o) (length h.order) (room last Forward f.offset) (length h.order) ((ahead e).1 is) (omega arith)
+      -- outside of lookarounds it is as far as that, and inside as far from each offset
+      far-plain : (fs : List Frame) (b q : ℕ) → are_atomic fs ≡ true → left fs b q ≡ near b q
+      far-plain [] b q plain = refl
+      far-plain (g ∷ gs') b q plain = ap (λ (x : Bool). if x then near b q else far h v gs' g.continuation g.offset + (g.continuation - b)) plain
 
-      behind-less : (fs : List Frame) → Goes start fs f.forward f.continuation (offset_behind f o) gs → left fs f.continuation (offset_behind f o) ≤ left fs f.continuation f.offset
-      behind-less [] (is, (w', way', ends)) = let less = by_returns f.returns refl is in omega (arith, less)
-      behind-less (g ∷ gs') walks = omega arith
+      far-deep : (fs : List Frame) (b p q : ℕ) → are_atomic fs ≡ false → left fs b p ≡ left fs b q
+      far-deep [] b p q deep = absurd (cc deep)
+      far-deep (g ∷ gs') b p q deep =
+          ap (λ (x : Bool). if x then near b p else far h v gs' g.continuation g.offset + (g.continuation - b)) deep
+          ∙ sym (ap (λ (x : Bool). if x then near b q else far h v gs' g.continuation g.offset + (g.continuation - b)) deep)
+
+      by_kind : (b c : Bool) → f.returns ≡ b → are_atomic fs ≡ c → f.continuation < length h.ranks
+          → left fs f.continuation (if b then f.offset else o) < (if not b && c then near at o else left fs f.continuation f.offset + (f.continuation - at))
+      by_kind true c turns plain there = let within = inside.ahead in omega (arith, within)
+      by_kind false false turns deep there = let within = inside.ahead in let same = far-deep fs f.continuation o f.offset deep in omega (arith, within, same)
+      by_kind false true turns plain there =
+          let same = far-plain fs f.continuation o plain in
+          let out = (outside turns).1 in
+          let lower = may.pass.ranked at code.goal way.running.calm here (subst (λ n. n < length h.ranks) (sym out) there) in
+          let e = ap (rank_at h) out in
+          omega (arith, same, lower, e)
 
   -- So it goes on until it has come to its end.
   pub walk-goes : (start : ℕ) (frames : List Frame) (forward : Bool) (at o : ℕ) (gs hs : List Marks) → Goes start frames forward at o gs → (i : Instruction) → Stands program at i → (y : Walk)
@@ -241,18 +289,26 @@ module _ (flow : Flow) (h : Heights) (v : View) (all : AreOfKind v.kind v.units)
       dir : Direction
       dir = direction_of forward
 
+      ranked-there : (kind : Submatch) (low high continuation : ℕ) → Stands program at (code.submatch kind low high continuation)
+          → Lowers (ranking_of h) (asked_less kind) at continuation × Inside (ranking_of h) kind at continuation
+      ranked-there kind low high continuation there =
+          may.pass.ranked at (code.submatch kind low high continuation) (walk-way start frames forward at o gs walks).1.running.calm there
+
       into : (i : Instruction) → Stands program at i → is_entered i ≡ true → Goes start (entered i now).frames (entered i now).forward (entered i now).at (entered i now).offset (marked dir i o gs)
           × (left (entered i now).frames (entered i now).at (entered i now).offset < left frames at o)
       into (code.submatch (lookaround false backward) low high continuation) there is =
-          walk-into start forward at o gs (lookaround false backward) low high continuation there frames walks true
-          (may.pass.leaves at low high continuation (lookaround false backward) there (ltb-true low high is)) (λ w way.
+          let (free, ranks) = may.pass.leaves at low high continuation (lookaround false backward) there (ltb-true low high is) in
+          let lower = (ranked-there (lookaround false backward) low high continuation there).0 in
+          walk-into start forward at o gs (lookaround false backward) low high continuation there frames walks true free ranks lower.same (λ e. absurd (cc e)) (λ w way.
           let (t, inner, outer, anywhere) = look-into flow h v all program suits may.pass dir (told_by a) Anywhere (right dir) (past dir) w at o gs way tt gs backward low high continuation there in
-          (t, inner, outer, λ e. omega arith))
+          (t, inner, outer))
       into (code.submatch (lookaround true backward) low high continuation) there is = absurd (cc is)
       into (code.submatch atomic low high continuation) there is =
-          walk-into start forward at o gs atomic low high continuation there frames walks false (may.pass.leaves at low high continuation atomic there) (λ w way.
-          let (t, inner, outer, further) = atomic-into flow h v all program suits may.pass dir (told_by a) Anywhere (right dir) (past dir) w at o gs way tt gs low high continuation there in
-          (t, inner, outer, onward-offset forward o t.offset further))
+          let (lower, inner) = ranked-there atomic low high continuation there in
+          walk-into start forward at o gs atomic low high continuation there frames walks false (may.pass.leaves at low high continuation atomic there) (atomic-lower (ranking_of h) at continuation inner)
+          lower.same inner.outside (λ w way.
+          let (t, inner, outer, anywhere) = atomic-into flow h v all program suits may.pass dir (told_by a) Anywhere (right dir) (past dir) w at o gs way tt gs low high continuation there in
+          (t, inner, outer))
       into j there is = absurd (cc is)
 
       on : (x : Station) → led (told_by a) program (input_of v) (direction_of forward) hs i at o ≡ Some x → (b : Bool) → is_entered i ≡ b
@@ -313,7 +369,7 @@ module _ (flow : Flow) (h : Heights) (v : View) (all : AreOfKind v.kind v.units)
   -- what is told of the exits of a one-character loop that stands there is so
   pub walk-exits : (start : ℕ) (frames : List Frame) (forward : Bool) (at o : ℕ) (gs hs : List Marks) → Goes start frames forward at o gs → (i : Instruction) → Stands program at i
       → (j : Instruction) → is_single i ≡ true → Stands program (at + 1) j → AreExitsTold program v (direction_of forward) hs a j at (at + 2)
-  walk-exits start (f ∷ fs) forward at o gs hs (w, before, way, inside, ahead, rest) i here j single stands =
+  walk-exits start (f ∷ fs) forward at o gs hs (w, before, way, inside, outside, rest) i here j single stands =
       absurd (never i (inside.free.leads at i inside.after inside.ahead here) single)
     where
       never : (i : Instruction) → leads_through inside.nests inside.first inside.last f.continuation at i ≡ true → is_single i ≡ true → ⊥

@@ -1,5 +1,5 @@
 -- The way along what is told to have an answer.
-use Rattle.std.specs.Prelude.{◌≡◌, ℕ, zero, suc, ◌+◌, ◌-◌, ◌*◌, ◌<◌, ◌≤◌, Bool, true, false, not, List, [], ◌∷◌, length, reverse, Option, Some, None, if◌then◌else◌, get_or, nat_le, nat_lt, slice_get, slice_set}
+use Rattle.std.specs.Prelude.{◌≡◌, ℕ, zero, suc, ◌+◌, ◌-◌, ◌*◌, ◌<◌, ◌≤◌, ◌&&◌, Bool, true, false, not, List, [], ◌∷◌, length, reverse, Option, Some, None, if◌then◌else◌, get_or, nat_le, nat_lt, slice_get, slice_set}
 use Rattle.regress_meaning.specs.Meaning.{Direction, Forward}
 use Rattle.regress_meaning.specs.Inputs.{Input}
 use Rattle.regress_front_nodes.specs.Trees.{Submatch, lookaround, atomic}
@@ -13,7 +13,7 @@ use Rattle.regress_engine_runs.specs.States.{Marks, Whole, begun, ended, mixed, 
 use Rattle.regress_engine_runs.specs.UndoStack.{whole}
 use Rattle.regress_engine_memory.specs.Flow.{Flow, IsFlow}
 use Rattle.regress_engine_linear.specs.Ranks.{AreRanked, AreRunning, AreUnboundedOrOnce}
-use Rattle.regress_engine_linear.specs.RankTables.{ArePlaced, Heights, forward_at, rank_at, ranking_of}
+use Rattle.regress_engine_linear.specs.RankTables.{ArePlaced, Heights, forward_at, outside_at, rank_at, ranking_of}
 use Rattle.regress_engine_linear.specs.Answered.{ReadsAlong, answer_at, exit_at, one_at}
 use Rattle.regress_engine_answers.specs.AnswerTables.{exits_by, told_by}
 use Rattle.regress_engine_linear.specs.Linear.{AreLoopFree, LeavesGroups}
@@ -181,19 +181,19 @@ abbrev pub AreKept : (first last : ℕ) → (new old : List Marks) → Type 0
 AreKept first last new old = (length new ≡ length old) × ((k : ℕ) → (first ≤ k → k < last → ⊥) → get_or new k unset ≡ get_or old k unset)
 
 -- An address lies in contents without loops behind which it goes on at another, and the groups outside are as they were before them.
-pub record IsInside (h : Heights) (program : Program) (continuation at : ℕ) (groups before : List Marks) : Type 0 where
+pub record IsInside (program : Program) (continuation at : ℕ) (groups before : List Marks) : Type 0 where
   pub look : ℕ
   pub first : ℕ
   pub last : ℕ
   pub nests : Bool
-  pub free : AreLoopFree h program nests look first last continuation
+  pub free : AreLoopFree program nests look first last continuation
   pub after : look < at
   pub ahead : at < continuation
   pub kept : AreKept first last groups before
 
--- An offset lies in contents: those of an atomic group are read as what is around them, and it is no further back than where they began.
-abbrev pub IsAhead : (last : ℕ) → Frame → (forward : Bool) → (o : ℕ) → Type 0
-IsAhead last f forward o = f.returns ≡ false → (forward ≡ f.forward) × (f.forward ≡ true → room last Forward o ≤ room last Forward f.offset)
+-- Contents of an atomic group are read as what is around them, and outside of it it goes on behind them.
+abbrev pub GoesOutside : Heights → Frame → (forward : Bool) → (at : ℕ) → Type 0
+GoesOutside h f forward at = f.returns ≡ false → (forward ≡ f.forward) × (outside_at h at ≡ f.continuation)
 
 module _ (flow : Flow) (h : Heights) (program : Program) (v : View) where
   -- A walk that began at an offset has come to an address and an offset, with some groups. Outside of all contents a run from there has the
@@ -204,14 +204,24 @@ module _ (flow : Flow) (h : Heights) (program : Program) (v : View) where
       (forward ≡ true) × ((answer : Whole) × IsOnWay flow h program v Forward answer at o groups × EndsIn program (input_of v) start (Some answer))
   Walks start (f ∷ fs) forward at o groups =
       (answer : Whole) × (before : List Marks) × IsOnWay flow h program v (direction_of forward) answer at o groups
-      × (x : IsInside h program f.continuation at groups before) × IsAhead (length v.units) f forward o
+      × (x : IsInside program f.continuation at groups before) × GoesOutside h f forward at
       × Walks start fs f.forward f.continuation (offset_behind f answer.offset) (mixed 0 x.first x.last answer.groups before)
 
+-- no contents of a lookaround are gone through
+abbrev pub are_atomic : List Frame → Bool
+are_atomic [] = true
+are_atomic (f ∷ fs) = not f.returns && are_atomic fs
+
 module _ (h : Heights) (v : View) where
-  -- How far it is to the end of the text: so many addresses for each offset, and the ranks below; inside of contents the addresses up to their end.
+  -- so many addresses for each offset up to the end of the text, and the ranks below
+  abbrev pub to_end : (at o : ℕ) → ℕ
+  to_end at o = room (length v.units) Forward o * length h.order + rank_at h at
+
+  -- How far it is to the end of the text: outside of lookarounds that, also inside of atomic groups; inside of a lookaround the addresses up to
+  -- the end of the innermost contents, and how far it is behind them.
   abbrev pub far : List Frame → (at o : ℕ) → ℕ
-  far [] at o = room (length v.units) Forward o * length h.order + rank_at h at
-  far (f ∷ fs) at o = far fs f.continuation f.offset + (f.continuation - at)
+  far [] at o = to_end at o
+  far (f ∷ fs) at o = if are_atomic (f ∷ fs) then to_end at o else far fs f.continuation f.offset + (f.continuation - at)
 
 -- ---- where contents end
 

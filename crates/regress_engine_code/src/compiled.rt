@@ -3,6 +3,7 @@ ghost use Rattle.std.specs.Prelude.{◌≡◌, IfOk, IfErr};
 ghost use Rattle.std.specs.Arc.{arc_slice_items};
 ghost use Rattle.regress_engine_insn.specs.ProgramViews.{program_from, target_from};
 ghost use Rattle.regress_engine_analysis.specs.Planned.{ArePlanned};
+ghost use Rattle.regress_engine_analysis.specs.Submatches.{has_submatches};
 ghost use Rattle.regress_engine_code.specs.Laid.{IsLaid};
 
 use crate::brackets::copies_of;
@@ -32,6 +33,7 @@ pub struct CompiledRegex {
     pub(crate) plan: Plan,
     pub(crate) ghost laid: { ∥ IsLaid (target_from (program_from insns.items brackets.items loops groups units) tables flags) start_pred ∥₁ },
     pub(crate) ghost planned: { ArePlanned (program_from insns.items brackets.items loops groups units) plan.facts.items },
+    pub(crate) ghost submatches: { plan.submatches ≡ has_submatches insns.items },
 }
 
 impl CompiledRegex {
@@ -134,6 +136,13 @@ impl CompiledRegex {
         ensures { result ≡ known_of self.now.plan.facts.items at }
     {
         self.plan.known(at)
+    }
+
+    /// Whether it has lookarounds or atomic groups: `program.has_submatches()` is true for `a(?=b)`.
+    pub fn has_submatches(&self) -> bool
+        ensures { result ≡ has_submatches self.now.insns.items }
+    {
+        self.plan.has_submatches()
     }
 
     /// The same program once more. It errs with `OutOfMemory` alone.

@@ -1,3 +1,4 @@
 pub mod CountLemmas
 pub mod BeginLemmas
 pub mod TurnLemmas
+pub mod TableLemmas

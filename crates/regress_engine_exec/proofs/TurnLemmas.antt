@@ -1,7 +1,8 @@
 -- What an executor turns to is so where some proof of it is kept, and by tables nothing is counted.
 use mathlib.Core.HLevel.{Π_prop, ×_prop, Σ_prop_path}
 use Rattle.std.specs.Coded.{codes, le_prop}
-use Rattle.std.specs.Prelude.{IfSome, List, is_some, length, nat_lt, Result, Ok, Err, IfOk}
+use Rattle.std.specs.Prelude.{IfSome, List, is_some, length, map, nat_lt, Result, Ok, Err, IfOk}
+use Rattle.std.specs.Result.{IfErr, IsErrAnd, result_unwrap_or}
 use Rattle.std.proofs.Common.{◌≡◌, ℕ, suc, ◌^◌, ◌-◌, ◌<◌, ◌≤◌, ◌⊎◌, inl, inr, Bool, true, false, [], ◌∷◌, Option, Some, None, refl, sym, ◌∙◌, subst, arith}
 use Rattle.std.proofs.Math.Logic.{∥∥₁_elim, ∥∥₁_map}
 use Rattle.std.proofs.lemmas.Bool.{and_parts, cases_lt, ltb-true}
@@ -11,6 +12,8 @@ use Rattle.regress_front_nodes.specs.Trees.{Submatch, lookaround, atomic}
 use Rattle.regress_engine_input.specs.Views.{View, AreOfKind, input_of, reading_of}
 use Rattle.regress_engine_insn.specs.Instructions.{LoopFields, Instruction, Program, Stands}
 use Rattle.regress_engine_insn.specs.Instructions as code
+use Rattle.regress_engine_insn.specs.InsnViews.{instruction}
+use Rattle.regress_engine_insn.specs.declared.insn.Insn.{Insn}
 use Rattle.regress_engine_runs.specs.States.{Whole}
 use Rattle.regress_engine_runs.specs.UndoStack.{whole}
 use Rattle.regress_engine_runs.specs.Meets.{IsAtPlace, referred}
@@ -19,7 +22,7 @@ use Rattle.regress_engine_runs.proofs.Computed.{computed-runs, runs-computed}
 use Rattle.regress_engine_runs.proofs.OneAnswer.{IsComputed-prop}
 use Rattle.regress_engine_search.specs.Search.{IsSearchable}
 use Rattle.regress_engine_memory.specs.Flow.{Flow, Hands, Writes, IsToldOf, BeginsAnew, Flows}
-use Rattle.regress_engine_linear.specs.Ranks.{Ranking, Lowers, Inside, IsCycle, Ranks}
+use Rattle.regress_engine_linear.specs.Ranks.{Ranking, Lowers, Inside, IsCycle, Ranks, asked_less}
 use Rattle.regress_engine_linear.specs.RankTables.{Heights, ranking_of}
 use Rattle.regress_engine_linear.specs.Linear.{AreLoopFree, IsLinear, IsUnboundedOrOnce, LeavesGroups, AreFew, few, leads_through, too_long}
 use Rattle.regress_engine_linear.specs.LinearViews.{flow_in, heights_in}
@@ -32,8 +35,9 @@ use Rattle.regress_engine_answers.specs.declared.searching.TextTable.{TextTable}
 use Rattle.regress_engine_attempt.specs.Counting.{most_counted, CountsRun}
 use Rattle.regress_engine_attempt.proofs.CountLemmas.{spends-none, spends-more}
 use Rattle.regress_engine_exec.specs.Counting.{CountsSearch}
-use Rattle.regress_engine_exec.specs.Turned.{TellsLinear, Turns, fits_told, most_told}
+use Rattle.regress_engine_exec.specs.Turned.{GoesOnBy, TellsLinear, Turns, TurnsBy, TurnsTo, fits_told, most_told}
 use Rattle.regress_engine_exec.specs.declared.turning.Turning.{Turning}
+use Rattle.regress_engine_exec.specs.declared.tables.Tables.{Tables}
 use Rattle.regress_engine_exec.proofs.CountLemmas.{counts-first, counts-over}
 
 bool-set : IsSet Bool
@@ -146,6 +150,7 @@ module _ (r : Ranking) where
   lowers-anyway taken from to t = record {
     within = ∥∥₁_elim t le_prop (λ x. x.within);
     way = ∥∥₁_elim t (bool-set (r.forward to) (r.forward from)) (λ x. x.way);
+    same = ∥∥₁_elim t (nat-set (r.outside to) (r.outside from)) (λ x. x.same);
     rank = order-anyway 1 taken (suc (r.rank to)) (r.rank from) (∥∥₁_map t (λ x. x.rank));
   }
 
@@ -160,11 +165,12 @@ module _ (r : Ranking) where
   inside-rank at true false inner outer t =
       absurd (∥∥₁_elim t never-prop (λ x. elim x [ inl own ↦ absurd (cc (own.0, inner, outer)) | inr other ↦ absurd (cc (other.0, outer)) ]))
 
-  inside-anyway : (kind : Submatch) (at : ℕ) → ∥ Inside r kind at ∥₁ → Inside r kind at
-  inside-anyway kind at t = record {
+  inside-anyway : (kind : Submatch) (at continuation : ℕ) → ∥ Inside r kind at continuation ∥₁ → Inside r kind at continuation
+  inside-anyway kind at continuation t = record {
     within = ∥∥₁_elim t le_prop (λ x. x.within);
     way = ∥∥₁_elim t (direction-set _ _) (λ x. x.way);
     rank = inside-rank at (r.forward (suc at)) (r.forward at) refl refl (∥∥₁_map t (λ x. x.rank));
+    outside = λ is. ∥∥₁_elim t (nat-set (r.outside (suc at)) continuation) (λ x. x.outside is);
   }
     where
       direction-set : IsSet Direction
@@ -188,7 +194,7 @@ module _ (r : Ranking) where
           (f, here, cycle-anyway at begin f (∥∥₁_map t (λ x. subst (IsCycle flow r at begin) (same-loop program begin x.0 f x.1 here) x.2)))
 
       ranks-anyway : (at : ℕ) (i : Instruction) → ∥ Ranks flow r program at i ∥₁ → Ranks flow r program at i
-      ranks-anyway at code.goal t = tt
+      ranks-anyway at code.goal t = λ within. ∥∥₁_elim t le_prop (λ x. x within)
       ranks-anyway at code.fail t = tt
       ranks-anyway at (code.back k icase) t = ∥∥₁_elim t never-prop (λ x. x)
       ranks-anyway at (code.jump a) t = lowers-anyway 0 at a t
@@ -197,7 +203,7 @@ module _ (r : Ranking) where
       ranks-anyway at (code.loop_again begin) t = ranks-again at begin t
       ranks-anyway at (code.single_loop least most greedy) t = lowers-anyway least at (suc (suc at)) t
       ranks-anyway at (code.submatch kind first last continuation) t =
-          (lowers-anyway 0 at continuation (∥∥₁_map t (λ x. x.0)), inside-anyway kind at (∥∥₁_map t (λ x. x.1)))
+          (lowers-anyway (asked_less kind) at continuation (∥∥₁_map t (λ x. x.0)), inside-anyway kind at continuation (∥∥₁_map t (λ x. x.1)))
       ranks-anyway at (code.char c) t = lowers-anyway _ at (suc at) t
       ranks-anyway at (code.char_set cs) t = lowers-anyway _ at (suc at) t
       ranks-anyway at (code.byte_set bs) t = lowers-anyway _ at (suc at) t
@@ -229,19 +235,19 @@ bounded-anyway f t = by_order (cases_lt f.most too_long)
     by_order (inr all) = inl all
     by_order (inl low) = inr (∥∥₁_elim t (nat-set f.most 1) (λ x. elim x [ inl all ↦ absurd (omega (arith, low, all)) | inr once ↦ once ]))
 
-free-anyway : (h : Heights) (program : Program) (nests : Bool) (at first last continuation : ℕ) → ∥ AreLoopFree h program nests at first last continuation ∥₁
-    → AreLoopFree h program nests at first last continuation
-free-anyway h program nests at first last continuation t = record {
+free-anyway : (program : Program) (nests : Bool) (at first last continuation : ℕ) → ∥ AreLoopFree program nests at first last continuation ∥₁
+    → AreLoopFree program nests at first last continuation
+free-anyway program nests at first last continuation t = record {
   some = ∥∥₁_elim t le_prop (λ x. x.some);
   leads = λ b i after ahead here. ∥∥₁_elim t (bool-set (leads_through nests first last continuation b i) true) (λ x. x.leads b i after ahead here);
-  ranks = ∥∥₁_elim t le_prop (λ x. x.ranks);
 }
 
 leaves-anyway : (h : Heights) (program : Program) (at : ℕ) (kind : Submatch) (first last continuation : ℕ) → ∥ LeavesGroups h program at kind first last continuation ∥₁
     → LeavesGroups h program at kind first last continuation
 leaves-anyway h program at (lookaround true backward) first last continuation t = tt
-leaves-anyway h program at (lookaround false backward) first last continuation t = λ some. free-anyway h program true at first last continuation (∥∥₁_map t (λ x. x some))
-leaves-anyway h program at atomic first last continuation t = free-anyway h program false at first last continuation t
+leaves-anyway h program at (lookaround false backward) first last continuation t =
+    λ some. (free-anyway program true at first last continuation (∥∥₁_map t (λ x. (x some).0)), ∥∥₁_elim t le_prop (λ x. (x some).1))
+leaves-anyway h program at atomic first last continuation t = free-anyway program false at first last continuation t
 
 linear-anyway : (flow : Flow) (h : Heights) (program : Program) → ∥ IsLinear flow h program ∥₁ → IsLinear flow h program
 linear-anyway flow h program t = record {
@@ -286,32 +292,67 @@ told-anyway table program v t kept = record {
 -- ---- what an executor turns to
 
 module _ (program : Program) (v : View) where
-  turns-anyway : (t : Turning) → ∥ Turns program v t ∥₁ → Turns program v t
-  turns-anyway t kept = record {
-    linear = linear-anyway (flow_in t.table.now) (heights_in t.table.now) program (∥∥₁_map kept (λ x. x.linear));
+  turns-anyway : (table : LinearTable) (of_text : Option TextTable) → ∥ TurnsBy program v table of_text ∥₁ → TurnsBy program v table of_text
+  turns-anyway table of_text kept = record {
+    linear = linear-anyway (flow_in table) (heights_in table) program (∥∥₁_map kept (λ x. x.linear));
     short = ∥∥₁_elim kept le_prop (λ x. x.short);
-    told = by_told t.told (∥∥₁_map kept (λ x. x.told));
+    told = by_told of_text (∥∥₁_map kept (λ x. x.told));
   }
     where
-      by_told : (o : Option TextTable) → ∥ IfSome o (IsTold t.table.now program v) ∥₁ → IfSome o (IsTold t.table.now program v)
+      by_told : (o : Option TextTable) → ∥ IfSome o (IsTold table program v) ∥₁ → IfSome o (IsTold table program v)
       by_told None k = tt
-      by_told (Some told) k = told-anyway t.table.now program v told k
+      by_told (Some t) k = told-anyway table program v t k
 
-  pub turning-anyway : (o : Option Turning) → ∥ IfSome o (Turns program v) ∥₁ → IfSome o (Turns program v)
+  turning-anyway : (o : Option Turning) → ∥ IfSome o (Turns program v) ∥₁ → IfSome o (Turns program v)
   turning-anyway None kept = tt
-  turning-anyway (Some t) kept = turns-anyway t kept
+  turning-anyway (Some t) kept = turns-anyway t.table.now t.told kept
+
+  tables-anyway : (o : Option Tables) → ∥ IfSome o (GoesOnBy program v) ∥₁ → IfSome o (GoesOnBy program v)
+  tables-anyway None kept = tt
+  tables-anyway (Some t) kept = turns-anyway t.table (Some t.told) kept
+
+  module _ (turning : Option Turning) (tables : Option Tables) (kept : ∥ TurnsTo program v turning tables ∥₁) where
+    -- the table that was lent
+    pub lent-anyway : (t : Turning) → turning ≡ Some t → Turns program v t
+    lent-anyway t is = subst (λ o. IfSome o (Turns program v)) is (turning-anyway turning (∥∥₁_map kept (λ x. x.lent)))
+
+    -- the tables of its own
+    pub own-anyway : (t : Tables) → tables ≡ Some t → GoesOnBy program v t
+    own-anyway t is = subst (λ o. IfSome o (GoesOnBy program v)) is (tables-anyway tables (∥∥₁_map kept (λ x. x.own)))
+
+    -- what was lent is used
+    pub lent-again : (o : Option Turning) → IfSome o (Turns program v) → ∥ TurnsTo program v o tables ∥₁
+    lent-again o so = ∥∥₁_map kept (λ x. record { lent = so; own = x.own })
+
+    -- it comes to have tables of its own, or has none any more
+    pub owns-again : (o : Option Tables) → IfSome o (GoesOnBy program v) → ∥ TurnsTo program v turning o ∥₁
+    owns-again o so = ∥∥₁_map kept (λ x. record { lent = x.lent; own = so })
+
+-- what is so of tables that were made is so where there are none if they were not
+pub own-made : {E : Type 0} (P : Tables → Type 0) (r : Result (Option Tables) E) (o : Option Tables) → o ≡ result_unwrap_or r None → IfOk r (λ made. IfSome made P) → IfSome o P
+own-made P (Ok made) o is so = subst (λ x. IfSome x P) (sym is) so
+own-made P (Err e) o is so = subst (λ x. IfSome x P) (sym is) tt
+
+-- a program is linear by the table that was made of its instructions
+pub made-linear : (program : Program) (insns : List Insn) (made : Option LinearTable) (table : LinearTable) → made ≡ Some table → program.instructions ≡ map instruction insns
+    → IfSome made (λ t. (p : Program) → p.instructions ≡ map instruction insns → IsLinear (flow_in t) (heights_in t) p) → IsLinear (flow_in table) (heights_in table) program
+made-linear program insns made table is same known =
+    subst (λ o. IfSome o (λ t. (p : Program) → p.instructions ≡ map instruction insns → IsLinear (flow_in t) (heights_in t) p)) is known program same
+
+-- a text whose table fits is not too long
+pub short-told : (table : LinearTable) (v : View) (units : ℕ) → units ≡ length v.units → fits_told table units ≡ true → suc (length v.units) < too_long
+short-told table v units same fits = let low : units < most_told = ltb-true units most_told (and_parts (nat_lt units most_told) _ fits).0 in omega (arith, low, same)
 
 -- what is made of the table of a linear program is turned to
 pub turns-made : (program : Program) (v : View) (table : Option LinearTable) (o : Option Turning) (units : ℕ) → units ≡ length v.units → TellsLinear program table
-    → IfSome o (λ t. (table ≡ Some t.table.now) × (fits_told t.table.now units ≡ true)) → IfSome o (λ t. t.told ≡ None) → ∥ IfSome o (Turns program v) ∥₁
+    → IfSome o (λ t. (table ≡ Some t.table.now) × (fits_told t.table.now units ≡ true)) → IfSome o (λ t. (t.told ≡ None) × (t.steps ≡ 0)) → ∥ IfSome o (Turns program v) ∥₁
 turns-made program v table None units same tells made untold = ∣ tt ∣₁
 turns-made program v table (Some t) units same tells (is, fits) none =
-    let low : units < most_told = ltb-true units most_told (and_parts (nat_lt units most_told) _ fits).0 in
     let given : TellsLinear program (Some t.table.now) = subst (TellsLinear program) is tells in
     ∥∥₁_map given (λ linear. record {
       linear = linear;
-      short = omega (arith, low, same);
-      told = subst (λ o. IfSome o (IsTold t.table.now program v)) (sym none) tt;
+      short = short-told t.table.now v units same fits;
+      told = subst (λ o. IfSome o (IsTold t.table.now program v)) (sym none.0) tt;
     })
 
 -- ---- where nothing is counted
@@ -333,3 +374,8 @@ run-spends program v searchable at place b =
 pub if-found : {T E X : Type 0} (r : Result T E) → X → IfOk r (λ _. X)
 if-found (Ok x) h = h
 if-found (Err e) h = tt
+
+-- an error that came of refused memory says nothing of steps
+pub if-refused : {T E : Type 0} {Gives Over : E → Type 0} (P : Type 0) (r : Result T E) → IsErrAnd r Gives → ((e : E) → Gives e → Over e → ⊥) → IfErr r (λ e. Over e → P)
+if-refused P (Ok x) gives never = tt
+if-refused P (Err e) gives never = λ over. absurd (never e gives over)

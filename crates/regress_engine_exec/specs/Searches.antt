@@ -1,11 +1,13 @@
 -- What an executor searches, and what it holds.
-use Rattle.std.specs.Prelude.{ℕ, Bool, List, map, is_some}
+use Rattle.std.specs.Prelude.{ℕ, Bool, List, Option, None, Some, map, is_some, option_map}
 use Rattle.regress_engine_insn.specs.Instructions.{Program}
 use Rattle.regress_engine_code.specs.Standing.{program_of}
 use Rattle.regress_engine_runs.specs.States.{Marks}
 use Rattle.regress_engine_search.specs.Search.{Search}
 use Rattle.regress_engine_search.specs.StateViews.{marks_of}
 use Rattle.regress_engine_search.specs.declared.budget.StepsLeft.{StepsLeft}
+use Rattle.regress_engine_linear.specs.declared.testing.LinearTable.{LinearTable}
+use Rattle.regress_engine_exec.specs.Turned.{told_steps}
 use Rattle.regress_engine_exec.specs.declared.scratch.Scratch.{Scratch}
 use Rattle.regress_engine_exec.specs.declared.search.Backtracker.{Backtracker}
 
@@ -36,3 +38,15 @@ steps_of e = e.budget.0
 -- whether it turns to a table where no more steps may be counted
 abbrev pub turns_in : {I B : Type 0} {g : _} → Backtracker I B g → Bool
 turns_in e = is_some e.turning
+
+-- the table of its program, if it turns to one of the text
+abbrev pub table_in : {I B : Type 0} {g : _} → Backtracker I B g → Option LinearTable
+table_in e = option_map (λ t. t.table.now) e.turning
+
+-- how many steps its searches took by tables, with those that it will take to make that of the text, where it is not there yet
+abbrev pub tabled_in : {I B : Type 0} {g : _} → Backtracker I B g → ℕ
+tabled_in {g = g} e = elim e.turning [ None ↦ 0 | Some t ↦ told_steps (g.shown e.context.input) t ]
+
+-- how many of these were taken
+abbrev pub table_steps_of : {I B : Type 0} {g : _} → Backtracker I B g → ℕ
+table_steps_of e = elim e.turning [ None ↦ 0 | Some t ↦ t.steps ]

@@ -9,6 +9,7 @@ mod producer;
 mod scratch;
 mod search;
 mod stepping;
+mod tables;
 mod turning;
 
 pub use budget::SearchBudget;

@@ -1,5 +1,5 @@
 //! The search for the first place from which a run has an answer.
-ghost use Rattle.std.specs.Prelude.{◌≡◌, ◌||◌, false, true, length, Some, option_copied, option_map, IfOk, IfErr, IfSome, OnErr};
+ghost use Rattle.std.specs.Prelude.{◌≡◌, ◌≤◌, ◌+◌, ◌||◌, false, true, length, Some, option_copied, option_map, IfOk, IfErr, IfSome, OnErr};
 ghost use Rattle.regress_match.specs.GroupViews.{names_of_match};
 ghost use Rattle.regress_match.specs.Views.{item_of};
 ghost use Rattle.regress_engine_code.specs.Standing.{names_of, program_of};
@@ -14,11 +14,12 @@ ghost use Rattle.regress_engine_search.specs.Search.{IsMadeOf, IsItemAtPlaces, I
 ghost use Rattle.regress_engine_attempt.specs.Attempts.{Remembers, world_of};
 ghost use Rattle.regress_engine_attempt.specs.Counting.{CountsRun};
 ghost use Rattle.regress_engine_exec.specs.Counting.{CountsSearch};
-ghost use Rattle.regress_engine_exec.specs.Turned.{NeverOver, TellsLinear, Turns, enough_by, may_turn};
+ghost use Rattle.regress_engine_exec.specs.Turned.{NeverOver, TellsLinear, TurnsTo, enough_by, ends, filled_by, may_turn, most_walked};
 
 use crate::budget::SearchBudget;
 use crate::finding::{first_from, run_from};
 use crate::scratch::Scratch;
+use crate::tables::{Tables, patience};
 use crate::turning::{Turning, turning_over};
 use regress_engine_attempt::Remembered;
 use regress_engine_code::CompiledRegex;
@@ -28,7 +29,7 @@ use regress_engine_search::{
     Ended, ExecutorInput, SearchContext, Shown, StepsLeft, Unbounded, fill_slots,
 };
 use regress_match::{Match, MatchProducer, Range};
-use std::alloc::Global;
+use std::alloc::{AllocError, Global};
 
 /// Finds the matches of a program in a text, and counts the steps of all its searches against a budget. It holds one state and one
 /// stack of what is to be undone, its scratch, and what it remembers of failures; it keeps these from one search to the next, and no
@@ -41,11 +42,16 @@ pub struct Backtracker<'r, Input: Shown, B> {
     remembered: Remembered,
     budget: B,
     turning: Option<Turning<'r>>,
+    /// How many steps may still be counted before it has tables, if it is to have some.
+    patience: StepsLeft,
+    tables: Option<Tables>,
     ghost so: { ∥ Remembers (world_of context.program.now (Input.shown context.input)) remembered ∥₁ },
-    ghost turns: { ∥ IfSome turning (Turns (program_of context.program.now) (Input.shown context.input)) ∥₁ },
+    ghost turns: { ∥ TurnsTo (program_of context.program.now) (Input.shown context.input) turning tables ∥₁ },
 }
 
-/// Finds the matches of a program in a text, however many steps that takes.
+/// Finds the matches of a program in a text, however many steps that takes. If the program is linear and something is repeated inside of one of
+/// its lookarounds, its searches go on by a table of the text once they took as many steps as `linear_steps` tells, so that
+/// their time grows as the text does.
 pub type BacktrackExecutor<'r, Input> = Backtracker<'r, Input, Unbounded>;
 
 /// Finds the matches of a program in a text, as `BacktrackExecutor` does, in so many steps for all its searches. A search that would
@@ -111,7 +117,7 @@ impl<'r, Input: ExecutorInput> BoundedExecutor<'r, Input> {
 }
 
 impl<'r, Input: ExecutorInput, B: SearchBudget> Backtracker<'r, Input, B> {
-    ghost use Rattle.regress_engine_exec.specs.Searches.{budget_of, groups_in, program_in, search_in, turns_in};
+    ghost use Rattle.regress_engine_exec.specs.Searches.{budget_of, groups_in, program_in, search_in, table_in, table_steps_of, tabled_in, turns_in};
 
     /// The executor of a program over a text, with room that other searches have left, and a budget for all its searches. If it is given the
     /// table of its program and the budget has enough steps (`linear_steps`), the budget is lowered to these, and where no more may be counted
@@ -139,12 +145,18 @@ impl<'r, Input: ExecutorInput, B: SearchBudget> Backtracker<'r, Input, B> {
         ensures turns { turns_in result ≡ may_turn (option_copied table.entry) (length (Input.view input).units) (B.left budget) }
         ensures budget { turns_in result ≡ false → budget_of result ≡ budget }
         ensures lowered { turns_in result ≡ true → B.left (budget_of result) ≡ enough_by (option_copied table.entry) (length (Input.view input).units) }
+        ensures table { turns_in result ≡ true → table_in result ≡ option_copied table.entry }
+        ensures tabled { tabled_in result ≡ filled_by (table_in result) (Input.view input) }
     {
         let context = SearchContext::new(program, input);
         let units = context.text_len();
         let remembered = Remembered::new(alloc, units);
         let mut budget = budget;
         let turning = turning_over(table, units, &mut budget);
+        let patience = match budget.over() {
+            Some(_) => StepsLeft(0),
+            None => patience(&context),
+        };
         Backtracker {
             alloc,
             context,
@@ -152,6 +164,8 @@ impl<'r, Input: ExecutorInput, B: SearchBudget> Backtracker<'r, Input, B> {
             remembered,
             budget,
             turning,
+            patience,
+            tables: None,
         }
     }
 
@@ -162,6 +176,22 @@ impl<'r, Input: ExecutorInput, B: SearchBudget> Backtracker<'r, Input, B> {
     /// ```
     pub fn into_scratch(self) -> Scratch {
         self.scratch
+    }
+
+    /// How many steps its searches took by tables, of the program and of the text, to which they turn where no more may be counted against the
+    /// budget: two for each address of the program at each offset of the text, to make the text's, and one for each address at each offset
+    /// that a walk along a match passes. Of a whole iteration they are no more than the steps that are enough (`linear_steps`).
+    ///
+    /// ```rust
+    /// let steps = executor.table_steps();
+    /// ```
+    pub fn table_steps(&self) -> usize
+        ensures { result ≡ table_steps_of self.now }
+    {
+        match &self.turning {
+            Some(turning) => turning.steps,
+            None => 0,
+        }
     }
 
     /// Whether it has turned to a table of the text.
@@ -185,6 +215,136 @@ impl<'r, Input: ExecutorInput, B: SearchBudget> Backtracker<'r, Input, B> {
         }
     }
 
+    /// Makes tables, if the program is linear, the text's fits, and memory is granted.
+    fn make_tables(&mut self)
+        ensures budget { budget_of self.new ≡ budget_of self.old }
+        ensures kept { self.new.context ≡ self.old.context }
+        ensures turns { turns_in self.new ≡ turns_in self.old }
+        ensures table { table_in self.new ≡ table_in self.old }
+        ensures tabled { tabled_in self.new ≡ tabled_in self.old }
+    {
+        self.tables = Tables::of(self.alloc, &self.context).unwrap_or(None);
+    }
+
+    /// Searches from an offset on by as many steps as there is patience for; where there is none any more, it makes tables and answers nothing.
+    /// It is apart so that no other search makes room for it.
+    #[inline(never)]
+    fn search_counted(
+        &mut self,
+        offset: usize,
+    ) -> Result<Option<Option<(usize, usize)>>, AllocError>
+        requires { IsAtPlace (reading_of (Input.view self.old.context.input)) offset }
+        ensures found { IfOk result (λ ended. IfSome ended (λ found. IsFound (program_in self.old) (input_of (Input.view self.old.context.input)) offset found (groups_in self.new))) }
+        ensures budget { budget_of self.new ≡ budget_of self.old }
+        ensures kept { self.new.context ≡ self.old.context }
+        ensures turns { turns_in self.new ≡ turns_in self.old }
+        ensures table { table_in self.new ≡ table_in self.old }
+        ensures tabled { tabled_in self.new ≡ tabled_in self.old }
+    {
+        let ended = first_from(
+            &self.context,
+            &mut self.scratch,
+            &mut self.remembered,
+            &mut self.patience,
+            offset,
+        )?;
+        if let Ended::With(found) = ended {
+            return Ok(Some(found));
+        }
+        self.make_tables();
+        Ok(None)
+    }
+
+    /// Searches from an offset on, as long as there is patience; else, and where there is none any more, nothing is answered.
+    #[inline(always)]
+    fn search_in_time(
+        &mut self,
+        offset: usize,
+    ) -> Result<Option<Option<(usize, usize)>>, AllocError>
+        requires { IsAtPlace (reading_of (Input.view self.old.context.input)) offset }
+        ensures found { IfOk result (λ ended. IfSome ended (λ found. IsFound (program_in self.old) (input_of (Input.view self.old.context.input)) offset found (groups_in self.new))) }
+        ensures budget { budget_of self.new ≡ budget_of self.old }
+        ensures kept { self.new.context ≡ self.old.context }
+        ensures turns { turns_in self.new ≡ turns_in self.old }
+        ensures table { table_in self.new ≡ table_in self.old }
+        ensures tabled { tabled_in self.new ≡ tabled_in self.old }
+    {
+        if self.patience.0 == 0 {
+            return Ok(None);
+        }
+        self.search_counted(offset)
+    }
+
+    /// Runs the program from an offset, as long as there is patience; else, and where there is none any more, nothing is answered.
+    fn run_in_time(&mut self, offset: usize) -> Result<Option<Option<usize>>, AllocError>
+        requires { IsAtPlace (reading_of (Input.view self.old.context.input)) offset }
+        ensures answer { IfOk result (λ ended. IfSome ended (λ end. IsAnswer (program_in self.old) (input_of (Input.view self.old.context.input)) offset end (groups_in self.new))) }
+        ensures budget { budget_of self.new ≡ budget_of self.old }
+        ensures kept { self.new.context ≡ self.old.context }
+        ensures turns { turns_in self.new ≡ turns_in self.old }
+        ensures table { table_in self.new ≡ table_in self.old }
+        ensures tabled { tabled_in self.new ≡ tabled_in self.old }
+    {
+        if self.patience.0 == 0 {
+            return Ok(None);
+        }
+        let ended = run_from(
+            &self.context,
+            &mut self.scratch,
+            &mut self.remembered,
+            &mut self.patience,
+            offset,
+        )?;
+        if let Ended::With(end) = ended {
+            return Ok(Some(end));
+        }
+        self.make_tables();
+        Ok(None)
+    }
+
+    /// Searches from an offset on by its tables, if it has some; else, and where memory is refused, nothing is answered.
+    #[inline(always)]
+    fn search_by_tables(&mut self, offset: usize) -> Option<Option<(usize, usize)>>
+        requires { IsAtPlace (reading_of (Input.view self.old.context.input)) offset }
+        ensures found { IfSome result (λ found. IsFound (program_in self.old) (input_of (Input.view self.old.context.input)) offset found (groups_in self.new)) }
+        ensures budget { budget_of self.new ≡ budget_of self.old }
+        ensures kept { self.new.context ≡ self.old.context }
+        ensures turns { turns_in self.new ≡ turns_in self.old }
+        ensures table { table_in self.new ≡ table_in self.old }
+        ensures tabled { tabled_in self.new ≡ tabled_in self.old }
+    {
+        let Some(tables) = &self.tables else {
+            return None;
+        };
+        let groups = &mut self.scratch.memory.groups;
+        if let Ok(found) = tables.first_from(&self.context, groups, offset) {
+            return Some(found);
+        }
+        self.tables = None;
+        None
+    }
+
+    /// Runs the program from an offset by its tables, if it has some; else, and where memory is refused, nothing is answered.
+    fn run_by_tables(&mut self, offset: usize) -> Option<Option<usize>>
+        requires { IsAtPlace (reading_of (Input.view self.old.context.input)) offset }
+        ensures answer { IfSome result (λ end. IsAnswer (program_in self.old) (input_of (Input.view self.old.context.input)) offset end (groups_in self.new)) }
+        ensures budget { budget_of self.new ≡ budget_of self.old }
+        ensures kept { self.new.context ≡ self.old.context }
+        ensures turns { turns_in self.new ≡ turns_in self.old }
+        ensures table { table_in self.new ≡ table_in self.old }
+        ensures tabled { tabled_in self.new ≡ tabled_in self.old }
+    {
+        let Some(tables) = &self.tables else {
+            return None;
+        };
+        let groups = &mut self.scratch.memory.groups;
+        if let Ok(end) = tables.run_from(&self.context, groups, offset) {
+            return Some(end);
+        }
+        self.tables = None;
+        None
+    }
+
     /// Searches from an offset on by tables, if it turns to them; else no more steps may be counted, and it errs since there would be too
     /// many. It answers as `search` does.
     fn search_told(&mut self, offset: usize) -> Result<Option<(usize, usize)>, B::Error>
@@ -195,6 +355,8 @@ impl<'r, Input: ExecutorInput, B: SearchBudget> Backtracker<'r, Input, B> {
         ensures budget { budget_of self.new ≡ budget_of self.old }
         ensures kept { self.new.context ≡ self.old.context }
         ensures turns { turns_in self.new ≡ turns_in self.old }
+        ensures table { table_in self.new ≡ table_in self.old }
+        ensures tabled { IfOk result (λ found. tabled_in self.new ≤ tabled_in self.old + most_walked (table_in self.old) found) }
     {
         let Some(turning) = &mut self.turning else {
             return Err(self.too_many_steps());
@@ -240,7 +402,15 @@ impl<'r, Input: ExecutorInput, B: SearchBudget> Backtracker<'r, Input, B> {
         ensures never { IfErr result (NeverOver B.is_over (turns_in self.old)) }
         ensures kept { self.new.context ≡ self.old.context }
         ensures turns { turns_in self.new ≡ turns_in self.old }
+        ensures table { table_in self.new ≡ table_in self.old }
+        ensures tabled { IfOk result (λ found. tabled_in self.new ≤ tabled_in self.old + most_walked (table_in self.old) found) }
     {
+        if let Some(found) = self.search_in_time(offset)? {
+            return Ok(found);
+        }
+        if let Some(found) = self.search_by_tables(offset) {
+            return Ok(found);
+        }
         if self.has_turned() {
             return self.search_told(offset);
         }
@@ -267,6 +437,12 @@ impl<'r, Input: ExecutorInput, B: SearchBudget> Backtracker<'r, Input, B> {
         ensures kept { self.new.context ≡ self.old.context }
         ensures turns { turns_in self.new ≡ turns_in self.old }
     {
+        if let Some(end) = self.run_in_time(offset)? {
+            return Ok(end);
+        }
+        if let Some(end) = self.run_by_tables(offset) {
+            return Ok(end);
+        }
         if self.has_turned() {
             return self.run_told(offset);
         }
@@ -302,6 +478,8 @@ impl<'r, Input: ExecutorInput, B: SearchBudget> Backtracker<'r, Input, B> {
         ensures never { IfErr result (NeverOver B.is_over (turns_in self.old)) }
         ensures kept { self.new.context ≡ self.old.context }
         ensures turns { turns_in self.new ≡ turns_in self.old }
+        ensures table { table_in self.new ≡ table_in self.old }
+        ensures tabled { IfOk result (λ found. tabled_in self.new ≤ tabled_in self.old + most_walked (table_in self.old) (option_map (λ m. ends (item_of m)) found)) }
     {
         let Some((start, end)) = self.search(offset)? else {
             return Ok(None);
@@ -314,8 +492,8 @@ impl<'r, Input: ExecutorInput, B: SearchBudget> Backtracker<'r, Input, B> {
 
     /// Finds what `find_from` does, and writes it to `slots`: the range of the match, then that of each group, as many as there is
     /// room for, and behind the last group `None`. It answers the range of the match; where there is none it answers `None`, and
-    /// the slots stay as they were, as they do where memory is refused. Only the scratch may grow, and what is remembered of
-    /// failures once runs have gone back often: it asks for no other memory.
+    /// the slots stay as they were, as they do where memory is refused. Only the scratch may grow, what is remembered of failures
+    /// once runs have gone back often, and the tables that are made after very many steps: it asks for no other memory.
     ///
     /// Asks that the offset is that of a place of the text.
     ///

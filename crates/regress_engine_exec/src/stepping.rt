@@ -1,10 +1,10 @@
 //! The matches of a program in a text, one after another.
-ghost use Rattle.std.specs.Prelude.{◌≡◌, ◌<◌, None, IfOk, IfErr, IfSome, OnErr};
+ghost use Rattle.std.specs.Prelude.{◌≡◌, ◌+◌, ◌<◌, ◌≤◌, length, None, Some, IfOk, IfErr, IfSome, OnErr, OnOk};
 ghost use Rattle.regress_match.specs.Iterating.{Finds, steps_on};
 ghost use Rattle.regress_engine_search.specs.Search.{items_from, places_behind, IsPosition, IsStart, StartsAt, IsMatchOf, Steps};
 ghost use Rattle.regress_engine_exec.specs.Counting.{CountsFrom, CountsStep};
-ghost use Rattle.regress_engine_exec.specs.Searches.{budget_of, search_in, turns_in};
-ghost use Rattle.regress_engine_exec.specs.Turned.{NeverOver};
+ghost use Rattle.regress_engine_exec.specs.Searches.{budget_of, search_in, table_in, tabled_in, turns_in};
+ghost use Rattle.regress_engine_exec.specs.Turned.{NeverOver, UnlessErr, ahead};
 
 use crate::budget::SearchBudget;
 use crate::search::Backtracker;
@@ -49,6 +49,9 @@ impl<'r, Input: ExecutorInput, B: SearchBudget> Backtracker<'r, Input, B> {
         ensures ended { position.old ≡ None → result ≡ None }
         ensures never { IfSome result (λ given. IfErr given (NeverOver B.is_over (turns_in self.old))) }
         ensures turns { turns_in self.new ≡ turns_in self.old }
+        ensures table { table_in self.new ≡ table_in self.old }
+        ensures tabled { UnlessErr result (tabled_in self.new + ahead (table_in self.old) (length (search_in self.old).view.units) position.new
+            ≤ tabled_in self.old + ahead (table_in self.old) (length (search_in self.old).view.units) position.old) }
     {
         let from = position.take()?;
         self.advance(from, position).transpose()
@@ -69,6 +72,9 @@ impl<'r, Input: ExecutorInput, B: SearchBudget> Backtracker<'r, Input, B> {
         ensures counted { CountsFrom B.is_over (search_in self.old) position result (B.left (budget_of self.old)) (B.left (budget_of self.new)) }
         ensures never { IfErr result (NeverOver B.is_over (turns_in self.old)) }
         ensures turns { turns_in self.new ≡ turns_in self.old }
+        ensures table { table_in self.new ≡ table_in self.old }
+        ensures tabled { OnOk result (tabled_in self.new + ahead (table_in self.old) (length (search_in self.old).view.units) next.new
+            ≤ tabled_in self.old + ahead (table_in self.old) (length (search_in self.old).view.units) (Some position)) }
     {
         *next = None;
         let Some(found) = self.find_from(position)? else {

@@ -1,11 +1,12 @@
 //! What searches turn to where no more steps may be counted.
-ghost use Rattle.std.specs.Prelude.{◌≡◌, true, false, Some, None, IfOk, IfSome, is_some, map, option_copied};
+ghost use Rattle.std.specs.Prelude.{◌≡◌, ◌≤◌, true, false, Some, None, IfOk, OnOk, IfSome, is_some, map, option_copied};
 ghost use Rattle.regress_engine_code.specs.Standing.{program_of};
 ghost use Rattle.regress_engine_input.specs.Views.{input_of, reading_of};
 ghost use Rattle.regress_engine_runs.specs.Meets.{IsAtPlace};
 ghost use Rattle.regress_engine_search.specs.Answering.{IsAnswer, IsFound};
 ghost use Rattle.regress_engine_search.specs.StateViews.{marks_of};
-ghost use Rattle.regress_engine_exec.specs.Turned.{Turns, enough_by, fits_told, linear_steps, may_turn};
+ghost use Rattle.regress_engine_answers.specs.Searched.{from_start};
+ghost use Rattle.regress_engine_exec.specs.Turned.{CountsTold, Turns, enough_by, fits_told, linear_steps, may_turn, told_steps};
 
 use crate::budget::SearchBudget;
 use regress_engine_answers::TextTable;
@@ -50,6 +51,8 @@ pub struct Turning<'r> {
     pub(crate) table: &'r LinearTable,
     /// The text's.
     pub(crate) told: Option<TextTable>,
+    /// How many steps it took to make that, and to search by it.
+    pub(crate) steps: usize,
 }
 
 /// What searches in a text of so many units turn to, if they are given the table of their program and the budget has enough steps, to which
@@ -63,14 +66,37 @@ pub(crate) fn turning_over<'r, B: SearchBudget>(
     ensures kept { is_some result ≡ false → budget.new ≡ budget.old }
     ensures lowered { is_some result ≡ true → B.left budget.new ≡ enough_by (option_copied table.entry) units }
     ensures table { IfSome result (λ t. (option_copied table.entry ≡ Some t.table.now) × (fits_told t.table.now units ≡ true)) }
-    ensures untold { IfSome result (λ t. t.told ≡ None) }
+    ensures untold { IfSome result (λ t. (t.told ≡ None) × (t.steps ≡ 0)) }
 {
     let table = table?;
     let steps = linear_steps(table, units)?;
-    budget.lower(steps).then_some(Turning { table, told: None })
+    budget.lower(steps).then_some(Turning {
+        table,
+        told: None,
+        steps: 0,
+    })
 }
 
 impl<'r> Turning<'r> {
+    /// Makes the table of the text, where it is not there yet. It counts its steps, and errs where memory is refused.
+    fn tell<Input: ExecutorInput>(
+        &mut self,
+        alloc: Global,
+        context: &SearchContext<'_, Input>,
+    ) -> Result<(), AllocError>
+        requires turns { Turns (program_of context.now.program.now) (Input.view context.now.input) self.old }
+        ensures told { OnOk result (is_some self.new.told ≡ true) }
+        ensures turns { Turns (program_of context.now.program.now) (Input.view context.now.input) self.new }
+        ensures table { self.new.table.now ≡ self.old.table.now }
+        ensures counted { OnOk result (told_steps (Input.view context.now.input) self.new ≤ told_steps (Input.view context.now.input) self.old) }
+    {
+        if self.told.is_none() {
+            let told = TextTable::of(alloc, self.table, context, &mut self.steps)?;
+            self.told = Some(told);
+        }
+        Ok(())
+    }
+
     /// Searches from an offset on by the table of the text, which is made and kept where it is not there yet. It answers the offset from
     /// which the first run has an answer, and where that ends; the answer's groups are written. It errs where memory is refused.
     pub(crate) fn first_from<Input: ExecutorInput>(
@@ -84,15 +110,14 @@ impl<'r> Turning<'r> {
         requires place { IsAtPlace (reading_of (Input.view context.now.input)) offset }
         ensures found { IfOk result (λ found. IsFound (program_of context.now.program.now) (input_of (Input.view context.now.input)) offset found (map marks_of groups.new.items)) }
         ensures turns { Turns (program_of context.now.program.now) (Input.view context.now.input) self.new }
+        ensures table { self.new.table.now ≡ self.old.table.now }
+        ensures counted { IfOk result (CountsTold (Input.view context.now.input) self.old self.new) }
     {
-        let mut steps = 0;
-        if let Some(told) = &self.told {
-            return told.first_from(self.table, context, offset, groups, &mut steps);
+        self.tell(alloc, context)?;
+        match &self.told {
+            Some(told) => told.first_from(self.table, context, offset, groups, &mut self.steps),
+            None => unreachable!(),
         }
-        let told = TextTable::of(alloc, self.table, context, &mut steps)?;
-        let found = told.first_from(self.table, context, offset, groups, &mut steps);
-        self.told = Some(told);
-        found
     }
 
     /// Runs the program from an offset by the table of the text, which is made and kept where it is not there yet. It answers where the
@@ -108,14 +133,13 @@ impl<'r> Turning<'r> {
         requires place { IsAtPlace (reading_of (Input.view context.now.input)) offset }
         ensures answer { IfOk result (λ end. IsAnswer (program_of context.now.program.now) (input_of (Input.view context.now.input)) offset end (map marks_of groups.new.items)) }
         ensures turns { Turns (program_of context.now.program.now) (Input.view context.now.input) self.new }
+        ensures table { self.new.table.now ≡ self.old.table.now }
+        ensures counted { IfOk result (λ end. CountsTold (Input.view context.now.input) self.old self.new (from_start offset end)) }
     {
-        let mut steps = 0;
-        if let Some(told) = &self.told {
-            return told.run_from(self.table, context, offset, groups, &mut steps);
+        self.tell(alloc, context)?;
+        match &self.told {
+            Some(told) => told.run_from(self.table, context, offset, groups, &mut self.steps),
+            None => unreachable!(),
         }
-        let told = TextTable::of(alloc, self.table, context, &mut steps)?;
-        let end = told.run_from(self.table, context, offset, groups, &mut steps);
-        self.told = Some(told);
-        end
     }
 }

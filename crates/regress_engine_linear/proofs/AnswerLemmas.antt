@@ -1,7 +1,7 @@
 -- Whether a run has an answer is told by what is told of the states that it leads to.
 use Rattle.std.specs.Prelude.{is_some, not}
 use Rattle.std.specs.List.{AllByRecursion}
-use Rattle.std.proofs.Common.{◌≡◌, ℕ, suc, ◌+◌, ◌&&◌, ◌||◌, inl, Bool, true, false, if◌then◌else◌, List, [], ◌∷◌, length, Option, None, Some, refl, sym, ap, ◌∙◌, subst, append-nil}
+use Rattle.std.proofs.Common.{◌≡◌, ℕ, suc, ◌+◌, ◌&&◌, ◌||◌, Bool, true, false, if◌then◌else◌, List, [], ◌∷◌, length, Option, None, Some, refl, sym, ap, ◌∙◌, subst, append-nil}
 use Rattle.regress_meaning.specs.Meaning.{Direction}
 use Rattle.regress_meaning.specs.Inputs.{Input}
 use Rattle.regress_engine_input.specs.Views.{View, AreOfKind, input_of}
@@ -20,6 +20,7 @@ use Rattle.regress_engine_search.specs.Search.{Suits}
 use Rattle.regress_engine_memory.specs.Flow.{Flow, IsFlow}
 use Rattle.regress_engine_linear.specs.Ranks.{Ranking, AreRanked, AreRunning}
 use Rattle.regress_engine_linear.specs.Answered.{Ends, IsAnswered, ReadsAlong, first_told, one_answers}
+use Rattle.regress_engine_linear.proofs.EndsBeyond.{behind-beyond}
 use Rattle.regress_engine_linear.proofs.Running.{running-behind, running-inside, running-step}
 
 module _ (program : Program) (input : Input) (dir : Direction) where
@@ -132,7 +133,8 @@ module _ (flow : Flow) (r : Ranking) (v : View) (all : AreOfKind v.kind v.units)
       -- it goes on, with some groups
       on : (b : Bool) → Stands program at (code.submatch (lookaround b backward) low high continuation) → (hs : List Marks) → ReadsAlong program v dir (whole continuation o loops hs ∷ [])
           → Ends program (input_of v) dir (whole continuation o loops hs ∷ []) d
-      on b there hs along = behind' loops hs (running-behind flow r v all program suits closed ranked dir (lookaround b backward) low high continuation s running there o hs (inl refl)) along
+      on b there hs along = behind' loops hs (running-behind flow r v all program suits closed ranked dir (lookaround b backward) low high continuation s running there o hs
+          (behind-beyond flow r v all program suits closed ranked (lookaround b backward) dir low high continuation s running.calm there o hs refl)) along
 
       by_answer : (b c : Bool) (q : Option Whole) → Stands program at (code.submatch (lookaround b backward) low high continuation) → is_some q ≡ c
           → ReadsAlong program v dir (after_submatch (lookaround b backward) low high continuation s q)

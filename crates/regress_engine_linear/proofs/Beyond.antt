@@ -17,40 +17,31 @@ use Rattle.regress_engine_memory.proofs.EachState.{each-choices, each-again}
 use Rattle.regress_engine_memory.proofs.Onward.{Takes, takes-none, flows-unreferring}
 use Rattle.regress_engine_memory.proofs.Taking.{each-moved, each-single}
 use Rattle.regress_engine_linear.specs.Ranks.{Ranking, Lowers, IsCycle, Ranks, AreRanked, IsBeyond}
-use Rattle.regress_engine_linear.proofs.Running.{fields-stand, same-loop}
+use Rattle.regress_engine_linear.proofs.Running.{beyond-by, fields-stand, same-loop}
 
 -- what holds of each of some states, where more does
 pub each-weaker : (P Q : Whole → Type 0) → ((u : Whole) → P u → Q u) → (us : List Whole) → AllByRecursion P us → AllByRecursion Q us
 each-weaker P Q leads [] each = tt
 each-weaker P Q leads (u ∷ us) each = (leads u each.0, each-weaker P Q leads us each.1)
 
--- where something is taken, or the rank is lower
-beyond-by : (r : Ranking) (last : ℕ) (dir : Direction) (taken at to o q : ℕ) → Lowers r taken at to → Takes last dir taken o q
-    → IsFurther last dir o q ⊎ ((q ≡ o) × (r.rank to < r.rank at))
-beyond-by r last dir taken at to o q lowers takes = by_place takes.0 lowers.rank
-  where
-    by_place : (q ≡ o) ⊎ IsFurther last dir o q → (1 ≤ taken) ⊎ (r.rank to < r.rank at) → IsFurther last dir o q ⊎ ((q ≡ o) × (r.rank to < r.rank at))
-    by_place (inr further) lower = inl further
-    by_place (inl same) (inl some) = let left = takes.1 in let e = ap (room last dir) same in absurd (omega (arith, some, left, e))
-    by_place (inl same) (inr less) = inr (same, less)
-
 module _ (flow : Flow) (r : Ranking) (v : View) (all : AreOfKind v.kind v.units) (program : Program) (suits : Suits program v) (closed : IsFlow flow program) (ranked : AreRanked flow r program)
     (dir : Direction) where
   abbrev last : ℕ
   last = length v.units
 
-  -- what is led to is beyond, is there, and is read the same way
+  -- what is led to is beyond, is there, and is read the same way, in the same atomic group
   abbrev pub On : Whole → Whole → Type 0
-  On s u = IsBeyond r last dir s u × (u.at < r.count) × (r.forward u.at ≡ r.forward s.at)
+  On s u = IsBeyond r last dir s u × (u.at < r.count) × (r.forward u.at ≡ r.forward s.at) × (r.outside u.at ≡ r.outside s.at)
 
   -- by what is taken
   taking : (s : Whole) (taken to q : ℕ) → Lowers r taken s.at to → Takes last dir taken s.offset q
-      → (IsFurther last dir s.offset q ⊎ ((q ≡ s.offset) × (r.rank to < r.rank s.at))) × (to < r.count) × (r.forward to ≡ r.forward s.at)
-  taking s taken to q lowers takes = (beyond-by r last dir taken s.at to s.offset q lowers takes, lowers.within, lowers.way)
+      → (IsFurther last dir s.offset q ⊎ ((q ≡ s.offset) × (r.rank to < r.rank s.at))) × (to < r.count) × (r.forward to ≡ r.forward s.at) × (r.outside to ≡ r.outside s.at)
+  taking s taken to q lowers takes = (beyond-by r last dir taken s.at to s.offset q lowers takes, lowers.within, lowers.way, lowers.same)
 
   -- at the same offset
   lower : (s : Whole) (to : ℕ) → Lowers r 0 s.at to
       → (IsFurther last dir s.offset s.offset ⊎ ((s.offset ≡ s.offset) × (r.rank to < r.rank s.at))) × (to < r.count) × (r.forward to ≡ r.forward s.at)
+      × (r.outside to ≡ r.outside s.at)
   lower s to lowers = taking s 0 to s.offset lowers (takes-none last dir s.offset s.offset refl)
 
   -- Each state that an instruction leads to is so.

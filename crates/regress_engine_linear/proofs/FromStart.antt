@@ -1,25 +1,22 @@
 -- In each state that a run meets from the first state on the loops that are live are under way.
 use Rattle.std.specs.Prelude.{IfSome}
 use Rattle.std.specs.List.{AllByRecursion}
-use Rattle.std.proofs.Common.{◌≡◌, ℕ, inl, true, false, List, [], ◌∷◌, length, Option, None, Some, refl, ap}
+use Rattle.std.proofs.Common.{◌≡◌, ℕ, suc, true, List, [], ◌∷◌, length, Option, refl, ap}
 use Rattle.std.proofs.lemmas.List.{length-replicate}
 use Rattle.regress_meaning.specs.Meaning.{Direction, Forward}
-use Rattle.regress_front_nodes.specs.Trees.{Submatch, lookaround, atomic}
+use Rattle.regress_front_nodes.specs.Trees.{Submatch}
 use Rattle.regress_front_nodes.specs.TreeMeaning.{submatch_direction}
 use Rattle.regress_engine_input.specs.Views.{View, AreOfKind, direction_of, input_of, reading_of}
 use Rattle.regress_engine_insn.specs.Instructions.{Instruction, Program, Stands}
 use Rattle.regress_engine_insn.specs.Instructions as code
-use Rattle.regress_engine_runs.specs.States.{Marks, Whole, onward, mixed, first_state}
+use Rattle.regress_engine_runs.specs.States.{Whole, onward, first_state}
 use Rattle.regress_engine_runs.specs.Runs.{after_submatch, successors}
 use Rattle.regress_engine_runs.specs.Meets.{Meets, now, later, inside, behind, reads_character, ReadsPlaces}
 use Rattle.regress_engine_search.specs.Search.{Suits}
 use Rattle.regress_engine_memory.specs.Flow.{Flow, IsFlow}
-use Rattle.regress_engine_memory.specs.Agreeing.{Agrees}
-use Rattle.regress_engine_memory.specs.Under.{IsOnward}
 use Rattle.regress_engine_memory.proofs.EachState.{each-append}
-use Rattle.regress_engine_memory.proofs.Onward.{ends-onward}
-use Rattle.regress_engine_memory.proofs.Steady.{steady}
 use Rattle.regress_engine_linear.specs.Ranks.{Ranking, AreRanked, AreRunning}
+use Rattle.regress_engine_linear.proofs.EndsBeyond.{Leaves, after-each, behind-beyond, contents-leave}
 use Rattle.regress_engine_linear.proofs.Running.{running-behind, running-inside, running-step}
 
 module _ (flow : Flow) (r : Ranking) (v : View) (all : AreOfKind v.kind v.units) (program : Program) (suits : Suits program v) (closed : IsFlow flow program) (ranked : AreRanked flow r program) where
@@ -36,21 +33,13 @@ module _ (flow : Flow) (r : Ranking) (v : View) (all : AreOfKind v.kind v.units)
   pub running-first : flow.calm 0 ≡ true → r.forward 0 ≡ true → ((id : ℕ) → flow.live 0 id ≡ true → ⊥) → (o : ℕ) → Live Forward (first_state program o)
   running-first calm forward silent o = record { calm = calm; way = ap direction_of forward; size = length-replicate program.loops (0, 0); loops = λ id l. absurd (silent id l) }
 
-  -- what follows a lookaround or an atomic group is under way, where its answer lies onward
+  -- what follows a lookaround or an atomic group is under way, where its answer leaves it onward
   running-after : (dir : Direction) (kind : Submatch) (low high continuation : ℕ) (s : Whole) (q : Option Whole) → Live dir s → Stands program s.at (code.submatch kind low high continuation)
-      → IfSome q (λ w. IsOnward last (submatch_direction kind dir) s.offset w.offset) → AllByRecursion (Live dir) (after_submatch kind low high continuation s q)
-  running-after dir kind low high continuation s q running here within = by_answer kind q here within (running-behind flow r v all program suits closed ranked dir kind low high continuation s running here)
-    where
-      by_answer : (kind : Submatch) (q : Option Whole) → Stands program s.at (code.submatch kind low high continuation)
-          → IfSome q (λ w. IsOnward last (submatch_direction kind dir) s.offset w.offset)
-          → ((o : ℕ) (groups : List Marks) → IsOnward last dir s.offset o → Live dir (record { at = continuation; offset = o; loops = s.loops; groups = groups }))
-          → AllByRecursion (Live dir) (after_submatch kind low high continuation s q)
-      by_answer (lookaround true backward) None here within on = (on s.offset s.groups (inl refl), tt)
-      by_answer (lookaround true backward) (Some w) here within on = tt
-      by_answer (lookaround false backward) None here within on = tt
-      by_answer (lookaround false backward) (Some w) here within on = (on s.offset (mixed 0 low high w.groups s.groups) (inl refl), tt)
-      by_answer atomic None here within on = tt
-      by_answer atomic (Some w) here within on = (on w.offset (mixed 0 low high w.groups s.groups) within, tt)
+      → IfSome q (λ w. Leaves r last (submatch_direction kind dir) (suc s.at) s.offset w.offset) → AllByRecursion (Live dir) (after_submatch kind low high continuation s q)
+  running-after dir kind low high continuation s q running here within =
+      after-each flow r v all program suits closed ranked (Live dir) kind dir low high continuation s q within (λ o groups on.
+      running-behind flow r v all program suits closed ranked dir kind low high continuation s running here o groups
+      (behind-beyond flow r v all program suits closed ranked kind dir low high continuation s running.calm here o groups on))
 
   -- Each state that is met is under way, where those are that the run begins with.
   pub running-met : {dir : Direction} {ts : List Whole} {u : Whole} → Meets program (input_of v) dir ts u → AllByRecursion (Live dir) ts → Reads dir ts → (d : Direction) × Live d u
@@ -62,10 +51,7 @@ module _ (flow : Flow) (r : Ranking) (v : View) (all : AreOfKind v.kind v.units)
   running-met (inside {dir = dir} {kind = kind} {first = low} {last = high} {continuation = continuation} {s = s} here met) running reads =
       running-met met (running-inside flow r v all program suits closed ranked dir kind low high continuation s running.0 here, tt) (λ u j met'. reads u j (inside here met'))
   running-met (behind {dir = dir} {kind = kind} {first = low} {last = high} {continuation = continuation} {s = s} {ss = ss} {q = q} here inner met) running reads =
-      let anew = (closed s.at (code.submatch kind low high continuation) running.0.calm here).0 in
-      let alone : Agrees flow (onward s) (onward s) = record { calm = anew.calm; at = refl; offset = refl; size = refl; loops = λ id l. refl } in
-      let within = ends-onward flow last program (input_of v) closed inner.1 s.offset (alone, tt) (inl refl, tt)
-      (steady v all program suits (submatch_direction kind dir) (onward s ∷ []) (λ u j met'. reads u j (inside here met'))) in
+      let within = contents-leave flow r v all program suits closed ranked dir kind low high continuation s running.0 here inner.0 q inner.1 (λ u j met'. reads u j (inside here met')) in
       running-met met
       (each-append (Live dir) (after_submatch kind low high continuation s q) ss (running-after dir kind low high continuation s q running.0 here within) running.1)
       (λ u j met'. reads u j (behind here inner met'))

@@ -2,6 +2,7 @@ pub mod Running
 pub mod Alike
 pub mod RunsAlike
 pub mod Beyond
+pub mod EndsBeyond
 pub mod FromStart
 pub mod Ranking
 pub mod AnswerLemmas

@@ -1,6 +1,6 @@
 -- What is read behind a place stands at the next place: no other lies between.
-use Rattle.std.specs.Prelude.{slice_get, option_map}
-use Rattle.std.proofs.Common.{◌≡◌, ℕ, zero, suc, ◌<◌, ◌≤◌, inl, inr, Bool, true, false, length, Option, None, Some, refl, sym, ap, ◌∙◌, subst, arith}
+use Rattle.std.specs.Prelude.{not, slice_get, option_map}
+use Rattle.std.proofs.Common.{◌≡◌, ℕ, zero, suc, ◌+◌, ◌-◌, ◌<◌, ◌≤◌, inl, inr, Bool, true, false, length, Option, None, Some, refl, sym, ap, ◌∙◌, subst, arith}
 use Rattle.std.proofs.lemmas.Bool.{cases_lt}
 use Rattle.std.proofs.lemmas.Option.{slice_get-get_or, slice_get_within}
 use Rattle.regress_meaning.specs.Meaning.{Direction, Forward, Backward}
@@ -13,7 +13,7 @@ use Rattle.regress_engine_runs.specs.Meets.{IsAtPlace}
 use Rattle.regress_engine_runs.specs.Runs.{against, room}
 use Rattle.regress_engine_search.proofs.PlaceLemmas.{end-is, units-are}
 use Rattle.regress_engine_search.proofs.SkipLemmas.{place-lies}
-use Rattle.regress_engine_linear.specs.Places.{IsAwaited, IsNextPlace, offset_of}
+use Rattle.regress_engine_linear.specs.Places.{IsAwaited, IsBehind, IsNextPlace, offset_of}
 
 same-second : (x y : ℕ × ℕ) → Some x ≡ Some y → x.1 ≡ y.1
 same-second x y e = let same : x ≡ y = cc in ap (λ (z : ℕ × ℕ). z.1) same
@@ -177,3 +177,24 @@ module _ (v : View) (all : AreOfKind v.kind v.units) where
         room-within : (d : Direction) (n : ℕ) → n ≤ last → room last d n ≤ last
         room-within Forward n inside = omega arith
         room-within Backward n inside = omega (arith, inside)
+
+-- ---- the offsets that are worked out one behind another
+
+-- the other direction
+pub turned : (forward : Bool) → against (direction_of forward) ≡ direction_of (not forward)
+turned true = refl
+turned false = refl
+
+-- the offset of a step
+pub offset-is : (forward : Bool) (end step o : ℕ) → (forward ≡ true → o ≡ end - step) → (forward ≡ false → o ≡ step) → o ≡ offset_of forward end step
+offset-is true end step o onward back = onward refl
+offset-is false end step o onward back = back refl
+
+-- the offset that is worked out next is right behind
+pub step-behind : (v : View) (forward : Bool) (n step : ℕ) → n ≡ length v.units → step < n → IsBehind v forward (offset_of forward n step) (offset_of forward n (step + 1))
+step-behind v true n step end less = omega (arith, end, less)
+step-behind v false n step end less = omega arith
+
+pub step-within : (bound n : ℕ) (forward : Bool) (step : ℕ) → n ≡ bound → step ≤ n → offset_of forward n step ≤ bound
+step-within bound n true step end less = omega (arith, end)
+step-within bound n false step end less = omega (arith, end, less)

@@ -1,15 +1,17 @@
 -- A test of the instructions that stand inside of contents is one of all instructions.
-use Rattle.std.specs.Prelude.{map, nat_le}
+use Rattle.std.specs.Prelude.{map, nat_le, nat_lt}
 use Rattle.std.proofs.Common.{◌≡◌, ℕ, zero, suc, ◌+◌, ◌<◌, ◌≤◌, ◌⊎◌, inl, inr, ◌&&◌, ◌||◌, Bool, true, false, List, [], ◌∷◌, drop, length, get_or, refl, sym, ap, ap₂, ◌∙◌, arith}
-use Rattle.std.proofs.lemmas.Bool.{le-leb}
+use Rattle.std.proofs.lemmas.Bool.{and_parts, le-leb}
 use Rattle.std.proofs.lemmas.Bool.Decides.{nat_tests}
+use Rattle.regress_front_nodes.specs.Trees.{Submatch}
 use Rattle.regress_engine_insn.specs.Instructions.{Instruction}
+use Rattle.regress_engine_insn.specs.Instructions as code
 use Rattle.regress_engine_insn.specs.InsnViews.{instruction}
 use Rattle.regress_engine_insn.specs.declared.insn.Insn.{Insn}
 use Rattle.regress_engine_insn.specs.declared.insn.Insn.TheVariants.{Goal}
 use Rattle.regress_engine_memory.specs.Passing.{all_pass}
 use Rattle.regress_engine_memory.proofs.TableLemmas.{tested, tested-end, tested-on}
-use Rattle.regress_engine_linear.specs.Linear.{leads_through}
+use Rattle.regress_engine_linear.specs.Linear.{leads_through, may_stand_inside}
 use Rattle.regress_engine_linear.specs.LinearTests.{leads_inside}
 
 module _ (nests : Bool) (at first last end : ℕ) where
@@ -50,3 +52,10 @@ module _ (nests : Bool) (at first last end : ℕ) where
     pub tested-behind : (b : ℕ) → (end ≤ b) ⊎ (length insns ≤ b) → tested test insns b ≡ true
     tested-behind b (inl high) = all-behind b (drop b (map instruction insns)) high
     tested-behind b (inr past) = tested-end test insns b past
+
+-- what stands inside of contents ends inside, and its groups are inside
+pub fits-inside : (nests : Bool) (kind : Submatch) (at low high continuation first last end : ℕ) → leads_through nests first last end at (code.submatch kind low high continuation) ≡ true
+    → (continuation < end) × (first ≤ low) × (high ≤ last)
+fits-inside nests kind at low high continuation first last end leads =
+    let parts = (and_parts (may_stand_inside nests kind) (nat_lt (suc at) end && ((nat_lt at continuation && nat_lt continuation end) && (nat_le first low && nat_le high last))) leads).1 in
+    grind (arith, nat_tests, parts)

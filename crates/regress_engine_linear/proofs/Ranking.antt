@@ -1,6 +1,6 @@
 -- A table of ranks that passes its test tells what is so.
 use Rattle.std.specs.Prelude.{if◌then◌else◌, length, nat_le, nat_lt, not, slice_get}
-use Rattle.std.proofs.Common.{◌≡◌, ℕ, suc, ◌<◌, inl, inr, ◌&&◌, ◌||◌, ◌==◌, Bool, true, false, Option, Some, None, refl, ap, ◌∙◌}
+use Rattle.std.proofs.Common.{◌≡◌, ℕ, suc, ◌<◌, inl, inr, ◌&&◌, ◌||◌, ◌==◌, Bool, true, false, Option, Some, None, refl, ap, ◌∙◌, arith}
 use Rattle.std.proofs.lemmas.Bool.{and_parts, or_cases, eqb-true, ltb-true, leb-true}
 use Rattle.regress_meaning.specs.Text.{holds}
 use Rattle.regress_engine_input.specs.Views.{direction_of}
@@ -12,8 +12,8 @@ use Rattle.regress_engine_runs.specs.Runs.{fields_of}
 use Rattle.regress_engine_memory.specs.Deciding.{Table, calm_at, flow_of, live_at}
 use Rattle.regress_engine_memory.specs.Needs.{taken_by}
 use Rattle.regress_engine_memory.proofs.TableLemmas.{each-passes}
-use Rattle.regress_engine_linear.specs.Ranks.{Lowers, Inside, IsCycle, Ranks, AreRanked}
-use Rattle.regress_engine_linear.specs.RankTables.{Heights, rank_at, forward_at, top_of, ranking_of, is_apart, is_read, lowers, turns, holds_inside, is_cycle, cycles, ranks, ranks_if_calm, are_ranked}
+use Rattle.regress_engine_linear.specs.Ranks.{Lowers, asked_less, Inside, IsCycle, Ranks, AreRanked}
+use Rattle.regress_engine_linear.specs.RankTables.{Heights, rank_at, forward_at, outside_at, top_of, ranking_of, is_apart, is_read, leaves, lowers, turns, holds_inside, is_cycle, cycles, ranks, ranks_if_calm, are_ranked}
 use Rattle.regress_engine_linear.proofs.Running.{fields-stand}
 
 -- what is not so, or another thing is, is another thing where it is so
@@ -43,12 +43,14 @@ module _ (h : Heights) (t : Table) where
 
   lowers-so : (taken from to : ℕ) → lowers h taken from to ≡ true → Lowers (ranking_of h) taken from to
   lowers-so taken from to e =
-      let both = and_parts (is_read h (forward_at h from) to) (nat_lt 0 taken || nat_lt (rank_at h to) (rank_at h from)) e in
+      let both = and_parts (is_read h (forward_at h from) to) ((outside_at h to == outside_at h from) && (nat_lt 0 taken || nat_lt (rank_at h to) (rank_at h from))) e in
+      let more = and_parts (outside_at h to == outside_at h from) (nat_lt 0 taken || nat_lt (rank_at h to) (rank_at h from)) both.1 in
       let read = read-so (forward_at h from) to both.0 in
       record {
         within = read.0;
         way = read.1;
-        rank = elim (or_cases (nat_lt 0 taken) (nat_lt (rank_at h to) (rank_at h from)) both.1) [
+        same = eqb-true (outside_at h to) (outside_at h from) more.0;
+        rank = elim (or_cases (nat_lt 0 taken) (nat_lt (rank_at h to) (rank_at h from)) more.1) [
           | inl some ↦ inl (ltb-true 0 taken some)
           | inr less ↦ inr (ltb-true (rank_at h to) (rank_at h from) less)
         ];
@@ -70,15 +72,25 @@ module _ (h : Heights) (t : Table) where
         left = refuted (holds (live_at t f.exit) f.loop_id) k.1;
       }
 
-  turns-so : (kind : Submatch) (at : ℕ) → turns h kind at ≡ true → (suc at < length h.ranks) × (direction_of (forward_at h (suc at)) ≡ submatch_direction kind (direction_of (forward_at h at)))
-  turns-so (lookaround negated true) at e = let read = read-so false (suc at) e in (read.0, ap direction_of read.1)
-  turns-so (lookaround negated false) at e = let read = read-so true (suc at) e in (read.0, ap direction_of read.1)
-  turns-so atomic at e = let read = read-so (forward_at h at) (suc at) e in (read.0, ap direction_of read.1)
+  turns-so : (kind : Submatch) (at continuation : ℕ) → turns h kind at continuation ≡ true
+      → (suc at < length h.ranks) × (direction_of (forward_at h (suc at)) ≡ submatch_direction kind (direction_of (forward_at h at))) × (kind ≡ atomic → outside_at h (suc at) ≡ continuation)
+  turns-so (lookaround negated true) at continuation e = let read = read-so false (suc at) e in (read.0, ap direction_of read.1, λ is. absurd (cc is))
+  turns-so (lookaround negated false) at continuation e = let read = read-so true (suc at) e in (read.0, ap direction_of read.1, λ is. absurd (cc is))
+  turns-so atomic at continuation e =
+      let both = and_parts (is_read h (forward_at h at) (suc at)) (outside_at h (suc at) == continuation) e in
+      let read = read-so (forward_at h at) (suc at) both.0 in
+      (read.0, ap direction_of read.1, λ is. eqb-true (outside_at h (suc at)) continuation both.1)
 
-  inside-so : (kind : Submatch) (at : ℕ) → holds_inside h kind at ≡ true → Inside (ranking_of h) kind at
-  inside-so kind at e =
-      let both = and_parts (turns h kind at) (is_apart h at) e in
-      let read = turns-so kind at both.0 in
+  leaves-so : (at : ℕ) → leaves h at ≡ true → outside_at h at < length h.ranks → rank_at h (outside_at h at) < rank_at h at
+  leaves-so at e within = elim (or_cases (nat_le (length h.ranks) (outside_at h at)) (nat_lt (rank_at h (outside_at h at)) (rank_at h at)) e) [
+    | inl past ↦ let x = leb-true (length h.ranks) (outside_at h at) past in absurd (omega (arith, x, within))
+    | inr lower ↦ ltb-true (rank_at h (outside_at h at)) (rank_at h at) lower
+  ]
+
+  inside-so : (kind : Submatch) (at continuation : ℕ) → holds_inside h kind at continuation ≡ true → Inside (ranking_of h) kind at continuation
+  inside-so kind at continuation e =
+      let both = and_parts (turns h kind at continuation) (is_apart h at) e in
+      let read = turns-so kind at continuation both.0 in
       record {
         within = read.0;
         way = read.1;
@@ -89,6 +101,7 @@ module _ (h : Heights) (t : Table) where
               )
           | inr turned ↦ inr (let two = and_parts (forward_at h at) (not (forward_at h (suc at))) turned in (two.0, not-so (forward_at h (suc at)) two.1))
         ];
+        outside = read.2;
       }
 
   module _ (program : Program) where
@@ -100,7 +113,7 @@ module _ (h : Heights) (t : Table) where
         by_fields (Some f) here e = (f, fields-stand (slice_get program.instructions begin) f here, cycle-so at begin f e)
 
     ranks-so : (at : ℕ) (i : Instruction) → ranks h t program at i ≡ true → Ranks (flow_of t) (ranking_of h) program at i
-    ranks-so at code.goal e = tt
+    ranks-so at code.goal e = leaves-so at e
     ranks-so at code.fail e = tt
     ranks-so at (code.back k icase) e = absurd (cc e)
     ranks-so at (code.jump a) e = lowers-so 0 at a e
@@ -109,7 +122,8 @@ module _ (h : Heights) (t : Table) where
     ranks-so at (code.loop_again begin) e = cycles-so at begin e
     ranks-so at (code.single_loop least most greedy) e = lowers-so least at (suc (suc at)) e
     ranks-so at (code.submatch kind first last continuation) e =
-        let b = and_parts (lowers h 0 at continuation) (holds_inside h kind at) e in (lowers-so 0 at continuation b.0, inside-so kind at b.1)
+        let b = and_parts (lowers h (asked_less kind) at continuation) (holds_inside h kind at continuation) e in
+        (lowers-so (asked_less kind) at continuation b.0, inside-so kind at continuation b.1)
     ranks-so at i e = lowers-so (taken_by i) at (suc at) e
 
     -- So it is decided by one pass over the instructions.

@@ -16,11 +16,11 @@ use Rattle.regress_engine_runs.specs.Meets.{reads_character, ReadsPlaces}
 use Rattle.regress_engine_search.specs.Search.{Suits}
 use Rattle.regress_engine_memory.specs.Flow.{Flow, Flows, Hands, Writes, IsFlow}
 use Rattle.regress_engine_memory.specs.Needs.{taken_by}
-use Rattle.regress_engine_memory.specs.Under.{IsFurther, IsOnward}
+use Rattle.regress_engine_memory.specs.Under.{IsFurther}
 use Rattle.regress_engine_memory.proofs.EachState.{each-choices, each-again}
 use Rattle.regress_engine_memory.proofs.Onward.{Takes, room-less, takes-none, flows-unreferring}
 use Rattle.regress_engine_memory.proofs.Taking.{each-moved, each-single}
-use Rattle.regress_engine_linear.specs.Ranks.{Ranking, Lowers, IsCycle, Ranks, AreRanked, IsRunning, AreRunning}
+use Rattle.regress_engine_linear.specs.Ranks.{Ranking, Lowers, IsBeyond, IsCycle, Ranks, AreRanked, IsRunning, AreRunning}
 
 -- where a repetition is told of an instruction it stands
 pub fields-stand : (x : Option Instruction) (f : LoopFields) → fields_of x ≡ Some f → x ≡ Some (code.enter_loop f)
@@ -36,26 +36,31 @@ pub further-on : (last : ℕ) (dir : Direction) (a b c : ℕ) → IsFurther last
 further-on last Forward a b c (past, low) (past', low') = (omega arith, low)
 further-on last Backward a b c past past' = omega arith
 
+-- where something is taken, or the rank is lower
+pub beyond-by : (r : Ranking) (last : ℕ) (dir : Direction) (taken at to o q : ℕ) → Lowers r taken at to → Takes last dir taken o q
+    → IsFurther last dir o q ⊎ ((q ≡ o) × (r.rank to < r.rank at))
+beyond-by r last dir taken at to o q lowers takes = by_place takes.0 lowers.rank
+  where
+    by_place : (q ≡ o) ⊎ IsFurther last dir o q → (1 ≤ taken) ⊎ (r.rank to < r.rank at) → IsFurther last dir o q ⊎ ((q ≡ o) × (r.rank to < r.rank at))
+    by_place (inr further) lower = inl further
+    by_place (inl same) (inl some) = let left = takes.1 in let e = ap (room last dir) same in absurd (omega (arith, some, left, e))
+    by_place (inl same) (inr less) = inr (same, less)
+
 -- ---- the data of a loop
 
 module _ (r : Ranking) (last : ℕ) (dir : Direction) where
   -- it is under way where something is taken, or at a lower rank
-  running-on : (taken at to o q id : ℕ) (x : ℕ × ℕ) → Lowers r taken at to → Takes last dir taken o q → IsRunning r last dir at o id x → IsRunning r last dir to q id x
-  running-on taken at to o q id x lowers takes running = record { begun = running.begun; few = running.few; place = by_place running.place takes.0 }
+  running-on : (at to o q id : ℕ) (x : ℕ × ℕ) → IsFurther last dir o q ⊎ ((q ≡ o) × (r.rank to < r.rank at)) → IsRunning r last dir at o id x → IsRunning r last dir to q id x
+  running-on at to o q id x beyond running = record { begun = running.begun; few = running.few; place = by_place running.place beyond }
     where
       Place : ℕ → ℕ → Type 0
       Place a p = ((x.1 ≡ p) × (r.rank a ≤ r.top id)) ⊎ IsFurther last dir x.1 p
 
-      -- nothing was taken, so the rank is lower
-      there : r.rank at ≤ r.top id → q ≡ o → (1 ≤ taken) ⊎ (r.rank to < r.rank at) → r.rank to ≤ r.top id
-      there low same (inl some) = let left = takes.1 in let e = ap (room last dir) same in absurd (omega (arith, some, left, e))
-      there low same (inr less) = omega (arith, low, less)
-
-      by_place : Place at o → (q ≡ o) ⊎ IsFurther last dir o q → Place to q
-      by_place (inl (here, low)) (inl same) = inl (here ∙ sym same, there low same lowers.rank)
-      by_place (inl (here, low)) (inr further) = inr (subst (λ e. IsFurther last dir e q) (sym here) further)
-      by_place (inr past) (inl same) = inr (subst (IsFurther last dir x.1) (sym same) past)
-      by_place (inr past) (inr further) = inr (further-on last dir x.1 o q past further)
+      by_place : Place at o → IsFurther last dir o q ⊎ ((q ≡ o) × (r.rank to < r.rank at)) → Place to q
+      by_place (inl (here, low)) (inr (same, less)) = inl (here ∙ sym same, omega (arith, low, less))
+      by_place (inl (here, low)) (inl further) = inr (subst (λ e. IsFurther last dir e q) (sym here) further)
+      by_place (inr past) (inr (same, less)) = inr (subst (IsFurther last dir x.1) (sym same) past)
+      by_place (inr past) (inl further) = inr (further-on last dir x.1 o q past further)
 
   -- where an iteration ends it has taken something
   pub running-ends : (at begin o : ℕ) (f : LoopFields) (x : ℕ × ℕ) (flow : Flow) → IsCycle flow r at begin f → IsRunning r last dir at o f.loop_id x → IsFurther last dir x.1 o
@@ -77,14 +82,19 @@ module _ (flow : Flow) (r : Ranking) (program : Program) (last : ℕ) (dir : Dir
   Running s = AreRunning flow r program last dir s
 
   -- with the data of all loops as they are
+  pub running-beyond : (s : Whole) (to q : ℕ) (groups : List Marks) → Running s → Hands flow s.at to → r.forward to ≡ r.forward s.at → IsBeyond r last dir s (whole to q s.loops groups)
+      → Running (whole to q s.loops groups)
+  running-beyond s to q groups running hands way beyond = record {
+    calm = hands.calm;
+    way = ap direction_of way ∙ running.way;
+    size = running.size;
+    loops = λ id l. running-on r last dir s.at to s.offset q id (get_or s.loops id (0, 0)) beyond (running.loops id (hands.live id l));
+  }
+
   pub running-handed : (s : Whole) (taken to q : ℕ) (groups : List Marks) → Running s → Hands flow s.at to → Lowers r taken s.at to → Takes last dir taken s.offset q
       → Running (record { at = to; offset = q; loops = s.loops; groups = groups })
-  running-handed s taken to q groups running hands lowers takes = record {
-    calm = hands.calm;
-    way = ap direction_of lowers.way ∙ running.way;
-    size = running.size;
-    loops = λ id l. running-on r last dir taken s.at to s.offset q id (get_or s.loops id (0, 0)) lowers takes (running.loops id (hands.live id l));
-  }
+  running-handed s taken to q groups running hands lowers takes =
+      running-beyond s to q groups running hands lowers.way (beyond-by r last dir taken s.at to s.offset q lowers takes)
 
   -- with other data of one loop, that is under way if it is live there
   running-written : (s : Whole) (id to : ℕ) (ms : List (ℕ × ℕ)) → length ms ≡ program.loops → ((k : ℕ) → (k ≡ id → ⊥) → get_or ms k (0, 0) ≡ get_or s.loops k (0, 0))
@@ -102,7 +112,8 @@ module _ (flow : Flow) (r : Ranking) (program : Program) (last : ℕ) (dir : Dir
           subst (λ j. IsRunning r last dir to s.offset j (get_or ms j (0, 0))) (sym same) (new (subst (λ j. flow.live to j ≡ true) same l))
       by_loop k l (inr other) =
           subst (IsRunning r last dir to s.offset k) (sym (others k other))
-          (running-on r last dir 0 s.at to s.offset s.offset k (get_or s.loops k (0, 0)) lowers (takes-none last dir s.offset s.offset refl) (running.loops k (writes.live k other l)))
+          (running-on r last dir s.at to s.offset s.offset k (get_or s.loops k (0, 0)) (beyond-by r last dir 0 s.at to s.offset s.offset lowers (takes-none last dir s.offset s.offset refl))
+          (running.loops k (writes.live k other l)))
 
 -- ---- what an instruction leads to
 
@@ -263,11 +274,7 @@ module _ (flow : Flow) (r : Ranking) (v : View) (all : AreOfKind v.kind v.units)
         }
 
     -- behind them the loops outside are as they were
-    pub running-behind : (o : ℕ) (groups : List Marks) → IsOnward last dir s.offset o → Live (whole continuation o s.loops groups)
-    running-behind o groups on =
-        running-handed flow r program last dir s 0 continuation o groups running (closed s.at (code.submatch kind low high continuation) running.calm here).1
-        (ranked s.at (code.submatch kind low high continuation) running.calm here).0 (on, less on)
-      where
-        less : IsOnward last dir s.offset o → room last dir o + 0 ≤ room last dir s.offset
-        less (inl same) = let e = ap (room last dir) same in omega (arith, e)
-        less (inr further) = let fewer = room-less last dir s.offset o further in omega (arith, fewer)
+    pub running-behind : (o : ℕ) (groups : List Marks) → IsBeyond r last dir s (whole continuation o s.loops groups) → Live (whole continuation o s.loops groups)
+    running-behind o groups beyond =
+        running-beyond flow r program last dir s continuation o groups running (closed s.at (code.submatch kind low high continuation) running.calm here).1
+        (ranked s.at (code.submatch kind low high continuation) running.calm here).0.way beyond

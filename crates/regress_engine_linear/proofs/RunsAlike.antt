@@ -1,7 +1,7 @@
 -- Runs from states at one address and offset are alike where all loops are under way, whatever their data and the groups.
 use Rattle.std.specs.Prelude.{IfSome, get_or}
 use Rattle.std.specs.List.{AllByRecursion}
-use Rattle.std.proofs.Common.{◌≡◌, ℕ, suc, ◌<◌, inl, true, false, List, [], ◌∷◌, ◌++◌, length, Option, None, Some, refl, sym, ap, ap₂, subst}
+use Rattle.std.proofs.Common.{◌≡◌, ℕ, suc, ◌<◌, ◌⊎◌, true, false, List, [], ◌∷◌, ◌++◌, length, Option, None, Some, refl, sym, ap, ap₂, subst}
 use Rattle.regress_meaning.specs.Meaning.{Direction}
 use Rattle.regress_front_nodes.specs.Trees.{Submatch, lookaround, atomic}
 use Rattle.regress_front_nodes.specs.TreeMeaning.{submatch_direction}
@@ -14,11 +14,11 @@ use Rattle.regress_engine_runs.specs.Meets.{Meets, now, later, inside, behind, r
 use Rattle.regress_engine_runs.specs.UndoStack.{Fails, whole}
 use Rattle.regress_engine_search.specs.Search.{Suits}
 use Rattle.regress_engine_memory.specs.Flow.{Flow, IsFlow}
-use Rattle.regress_engine_memory.specs.Agreeing.{Agrees, EndAlike}
-use Rattle.regress_engine_memory.specs.Under.{IsOnward}
-use Rattle.regress_engine_memory.proofs.Onward.{ends-onward, flows-unreferring}
-use Rattle.regress_engine_memory.proofs.Steady.{steady}
+use Rattle.regress_engine_memory.specs.Agreeing.{EndAlike}
+use Rattle.regress_engine_memory.specs.Under.{IsFurther}
+use Rattle.regress_engine_memory.proofs.Onward.{flows-unreferring}
 use Rattle.regress_engine_linear.specs.Ranks.{Ranking, AreRanked, AreRunning, AreUnboundedOrOnce, AreBeside, AllBeside, FailsAnyhow}
+use Rattle.regress_engine_linear.proofs.EndsBeyond.{GoesOn, Leaves, behind-beyond, contents-leave}
 use Rattle.regress_engine_linear.proofs.Running.{running-behind, running-inside, running-step}
 use Rattle.regress_engine_linear.proofs.Alike.{StandAlike, shape-on}
 
@@ -82,28 +82,31 @@ module _ (flow : Flow) (r : Ranking) (v : View) (all : AreOfKind v.kind v.units)
 
   -- ---- lookarounds and atomic groups
 
-  -- what follows them, by answers that end alike: the second one ends onward
+  -- what follows them, by answers that end alike: the second one leaves contents
   both-behind : (dir : Direction) (kind : Submatch) (low high continuation : ℕ) (s t : Whole) (p q : Option Whole) → EndAlike p q → s.offset ≡ t.offset
-      → IfSome q (λ w. IsOnward last (submatch_direction kind dir) t.offset w.offset)
-      → ((o : ℕ) (gs hs : List Marks) → IsOnward last dir t.offset o → Both dir (whole continuation o s.loops gs) (whole continuation o t.loops hs))
+      → IfSome q (λ w. Leaves r last (submatch_direction kind dir) (suc t.at) t.offset w.offset)
+      → ((o : ℕ) (gs hs : List Marks) → GoesOn r last kind dir t.at t.offset o → Both dir (whole continuation o s.loops gs) (whole continuation o t.loops hs))
       → AllBoth dir (after_submatch kind low high continuation s p) (after_submatch kind low high continuation t q)
-  both-behind dir kind low high continuation s t p q alike here within on = by_answers kind p q alike within
+  both-behind dir kind low high continuation s t p q alike here within on = by_answers kind p q alike within on
     where
       -- at offsets that are the same
-      both : (a b : ℕ) (gs hs : List Marks) → a ≡ b → IsOnward last dir t.offset b → Both dir (whole continuation a s.loops gs) (whole continuation b t.loops hs)
-      both a b gs hs same onwards = subst (λ c. Both dir (whole continuation c s.loops gs) (whole continuation b t.loops hs)) (sym same) (on b gs hs onwards)
+      both : (On : ℕ → Type 0) → ((o : ℕ) (gs hs : List Marks) → On o → Both dir (whole continuation o s.loops gs) (whole continuation o t.loops hs)) → (a b : ℕ) (gs hs : List Marks) → a ≡ b → On b
+          → Both dir (whole continuation a s.loops gs) (whole continuation b t.loops hs)
+      both On each a b gs hs same onwards = subst (λ c. Both dir (whole continuation c s.loops gs) (whole continuation b t.loops hs)) (sym same) (each b gs hs onwards)
 
-      by_answers : (kind : Submatch) (p q : Option Whole) → EndAlike p q → IfSome q (λ w. IsOnward last (submatch_direction kind dir) t.offset w.offset)
+      by_answers : (kind : Submatch) (p q : Option Whole) → EndAlike p q → IfSome q (λ w. Leaves r last (submatch_direction kind dir) (suc t.at) t.offset w.offset)
+          → ((o : ℕ) (gs hs : List Marks) → GoesOn r last kind dir t.at t.offset o → Both dir (whole continuation o s.loops gs) (whole continuation o t.loops hs))
           → AllBoth dir (after_submatch kind low high continuation s p) (after_submatch kind low high continuation t q)
-      by_answers (lookaround true backward) None None same within = (both s.offset t.offset s.groups t.groups here (inl refl), tt)
-      by_answers (lookaround true backward) (Some v) (Some w) same within = tt
-      by_answers (lookaround false backward) None None same within = tt
-      by_answers (lookaround false backward) (Some v) (Some w) same within =
-          (both s.offset t.offset (mixed 0 low high v.groups s.groups) (mixed 0 low high w.groups t.groups) here (inl refl), tt)
-      by_answers atomic None None same within = tt
-      by_answers atomic (Some v) (Some w) same within = (both v.offset w.offset (mixed 0 low high v.groups s.groups) (mixed 0 low high w.groups t.groups) same within, tt)
-      by_answers _ (Some v) None same within = absurd same
-      by_answers _ None (Some w) same within = absurd same
+      by_answers (lookaround true backward) None None same within each = (both (λ o. o ≡ t.offset) each s.offset t.offset s.groups t.groups here refl, tt)
+      by_answers (lookaround true backward) (Some v) (Some w) same within each = tt
+      by_answers (lookaround false backward) None None same within each = tt
+      by_answers (lookaround false backward) (Some v) (Some w) same within each =
+          (both (λ o. o ≡ t.offset) each s.offset t.offset (mixed 0 low high v.groups s.groups) (mixed 0 low high w.groups t.groups) here refl, tt)
+      by_answers atomic None None same within each = tt
+      by_answers atomic (Some v) (Some w) same within each =
+          (both (Leaves r last dir (suc t.at) t.offset) each v.offset w.offset (mixed 0 low high v.groups s.groups) (mixed 0 low high w.groups t.groups) same within, tt)
+      by_answers _ (Some v) None same within each = absurd same
+      by_answers _ None (Some w) same within each = absurd same
 
   -- each state that is met reads at places
   abbrev Reads : Direction → List Whole → Type 0
@@ -125,7 +128,6 @@ module _ (flow : Flow) (r : Ranking) (v : View) (all : AreOfKind v.kind v.units)
   beside-run (looks {dir = dir} {kind = kind} {first = low} {last = high} {continuation = continuation} {s = t} {ss = ts} {m = m} {q = a} here inner next) reads (s ∷ ss) both =
       let i : Instruction = code.submatch kind low high continuation in
       let there : Stands program s.at i = subst (λ a. Stands program a i) (sym both.0.at) here in
-      let anew = (closed t.at i both.0.second.calm here).0 in
       let into : Both (submatch_direction kind dir) (onward s) (onward t) = record {
         at = ap suc both.0.at;
         offset = both.0.offset;
@@ -133,14 +135,16 @@ module _ (flow : Flow) (r : Ranking) (v : View) (all : AreOfKind v.kind v.units)
         second = running-inside flow r v all program suits closed ranked dir kind low high continuation t both.0.second here;
       } in
       let (p, found, alike) = beside-run inner (λ u j met. reads u j (inside here met)) (onward s ∷ []) (into, tt) in
-      let alone : Agrees flow (onward t) (onward t) = record { calm = anew.calm; at = refl; offset = refl; size = refl; loops = λ id l. refl } in
-      let within = ends-onward flow last program (input_of v) closed inner t.offset (alone, tt) (inl refl, tt)
-      (steady v all program suits (submatch_direction kind dir) (onward t ∷ []) (λ u j met. reads u j (inside here met))) in
-      let beside : (o : ℕ) (gs hs : List Marks) → IsOnward last dir t.offset o → Both dir (whole continuation o s.loops gs) (whole continuation o t.loops hs) = λ o gs hs on. record {
+      let within = contents-leave flow r v all program suits closed ranked dir kind low high continuation t both.0.second here m a inner (λ u j met. reads u j (inside here met)) in
+      let beside : (o : ℕ) (gs hs : List Marks) → GoesOn r last kind dir t.at t.offset o → Both dir (whole continuation o s.loops gs) (whole continuation o t.loops hs) = λ o gs hs on.
+      let beyond = behind-beyond flow r v all program suits closed ranked kind dir low high continuation t both.0.second.calm here o hs on in
+      record {
         at = refl;
         offset = refl;
-        first = running-behind flow r v all program suits closed ranked dir kind low high continuation s both.0.first there o gs (subst (λ e. IsOnward last dir e o) (sym both.0.offset) on);
-        second = running-behind flow r v all program suits closed ranked dir kind low high continuation t both.0.second here o hs on;
+        first = running-behind flow r v all program suits closed ranked dir kind low high continuation s both.0.first there o gs
+            (subst (λ a. IsFurther last dir s.offset o ⊎ ((o ≡ s.offset) × (r.rank continuation < r.rank a))) (sym both.0.at)
+            (subst (λ e. IsFurther last dir e o ⊎ ((o ≡ e) × (r.rank continuation < r.rank t.at))) (sym both.0.offset) beyond));
+        second = running-behind flow r v all program suits closed ranked dir kind low high continuation t both.0.second here o hs beyond;
       } in
       let (q, run, same) = beside-run next (λ u j met. reads u j (behind here (m, inner) met)) (after_submatch kind low high continuation s p ++ ss)
       (both-append dir (after_submatch kind low high continuation s p) (after_submatch kind low high continuation t a) ss ts

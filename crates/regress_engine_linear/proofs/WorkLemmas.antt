@@ -1,7 +1,8 @@
 -- What may be asked where an instruction stands, and what is worked out there.
 use Rattle.std.specs.Prelude.{IfSome, get_or}
-use Rattle.std.proofs.Common.{◌≡◌, ℕ, suc, ◌+◌, ◌≤◌, ◌&&◌, ◌||◌, ◌==◌, Bool, true, false, List, [], length, Option, None, Some, refl, sym, ap, ap₂, ◌∙◌, subst, arith}
+use Rattle.std.proofs.Common.{◌≡◌, ℕ, suc, ◌+◌, ◌<◌, ◌≤◌, ◌&&◌, ◌||◌, ◌==◌, Bool, true, false, List, [], length, Option, None, Some, refl, sym, ap, ap₂, ◌∙◌, subst, arith}
 use Rattle.std.proofs.lemmas.Bool.{eq-eqb, eqb-true}
+use Rattle.std.proofs.lemmas.Option.{slice_get_within}
 use Rattle.regress_meaning.specs.Meaning.{Direction, Forward, Backward}
 use Rattle.regress_engine_input.specs.Views.{View, input_of, reading_of}
 use Rattle.regress_engine_insn.specs.Instructions.{Instruction, Program, Stands}
@@ -18,6 +19,7 @@ use Rattle.regress_engine_runs.proofs.RunViews.{one_stands}
 use Rattle.regress_engine_search.specs.Ready.{IsReady, is_simple}
 use Rattle.regress_engine_search.specs.Search.{Suits}
 use Rattle.regress_engine_search.proofs.ReadyLemmas.{simple-ready}
+use Rattle.regress_engine_linear.specs.RankTables.{ArePlaced, Heights, rank_at}
 use Rattle.regress_engine_linear.proofs.Formulas.{or-none}
 use Rattle.regress_engine_linear.specs.Answered.{answer_at, exits_at, exits_value_at, is_single, one_at, AreExitsOf, AreExitsRight, IsRepeated}
 
@@ -102,3 +104,7 @@ bit-here at o old value fresh =
 pub room-end : (last : ℕ) (d : Direction) (o : ℕ) → o ≤ last → room last d o ≤ last
 room-end last Forward o low = omega arith
 room-end last Backward o low = omega (arith, low)
+
+-- a rank is less than their number
+pub rank-low : (h : Heights) → ArePlaced h (length h.ranks) → (at : ℕ) → at < length h.ranks → rank_at h at < length h.order
+rank-low h placed at there = slice_get_within h.order (rank_at h at) at (placed at there)

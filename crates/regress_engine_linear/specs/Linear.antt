@@ -43,18 +43,21 @@ leads_through nests first last end at (code.submatch kind low high continuation)
 leads_through nests first last end at i = nat_lt (suc at) end
 
 -- The contents of what is matched by itself have no loop: each way through them goes from the front to the back, and writes the groups inside
--- alone. At least as many ranks lie between where they stand and where it goes on behind them as they have instructions.
-pub record AreLoopFree (h : Heights) (program : Program) (nests : Bool) (at first last continuation : ℕ) : Type 0 where
+-- alone.
+pub record AreLoopFree (program : Program) (nests : Bool) (at first last continuation : ℕ) : Type 0 where
   pub some : suc at < continuation
   pub leads : (b : ℕ) (i : Instruction) → at < b → b < continuation → Stands program b i → leads_through nests first last continuation b i ≡ true
-  pub ranks : rank_at h continuation + (continuation - at) ≤ rank_at h at
+
+-- At least as many ranks lie between where contents stand and where it goes on behind them as they have instructions.
+abbrev pub HaveRanks : Heights → (at continuation : ℕ) → Type 0
+HaveRanks h at continuation = rank_at h continuation + (continuation - at) ≤ rank_at h at
 
 -- What a lookaround leaves is where it stands: it is negated, no groups are inside, or its contents have no loop, so that a way through them is
--- as short as they are. The contents of an atomic group have none, and no atomic group inside.
+-- as short as they are, and ranks lie between. The contents of an atomic group have none, and no atomic group inside.
 abbrev pub LeavesGroups : Heights → Program → (at : ℕ) → Submatch → (first last continuation : ℕ) → Type 0
 LeavesGroups h program at (lookaround true backward) first last continuation = Unit {0}
-LeavesGroups h program at (lookaround false backward) first last continuation = first < last → AreLoopFree h program true at first last continuation
-LeavesGroups h program at atomic first last continuation = AreLoopFree h program false at first last continuation
+LeavesGroups h program at (lookaround false backward) first last continuation = first < last → AreLoopFree program true at first last continuation × HaveRanks h at continuation
+LeavesGroups h program at atomic first last continuation = AreLoopFree program false at first last continuation
 
 -- of a one-character loop there are few iterations at least, and few or any number at most
 abbrev pub few : ℕ

@@ -32,15 +32,17 @@ module _ (t : Table) where
 abbrev pub leads_inside : (nests : Bool) → (at first last end : ℕ) → (b : ℕ) → Instruction → Bool
 leads_inside nests at first last end b i = (nat_le b at || nat_le end b) || leads_through nests first last end b i
 
-module _ (h : Heights) (program : Program) where
-  -- contents have no loop
-  abbrev pub are_loop_free : (nests : Bool) → (at first last continuation : ℕ) → Bool
-  are_loop_free nests at first last continuation =
-      (nat_lt (suc at) continuation && nat_le (rank_at h continuation + (continuation - at)) (rank_at h at))
-      && all_pass (leads_inside nests at first last continuation) 0 program.instructions
+-- contents have no loop
+abbrev pub are_loop_free : Program → (nests : Bool) → (at first last continuation : ℕ) → Bool
+are_loop_free program nests at first last continuation = nat_lt (suc at) continuation && all_pass (leads_inside nests at first last continuation) 0 program.instructions
 
+-- as many ranks as they have instructions lie between where they stand and where it goes on behind them
+abbrev pub have_ranks : Heights → (at continuation : ℕ) → Bool
+have_ranks h at continuation = nat_le (rank_at h continuation + (continuation - at)) (rank_at h at)
+
+module _ (h : Heights) (program : Program) where
   -- what a lookaround or an atomic group leaves is as it has to be
   abbrev pub leaves_groups : (at : ℕ) → Instruction → Bool
-  leaves_groups at (code.submatch (lookaround false backward) first last continuation) = nat_le last first || are_loop_free true at first last continuation
-  leaves_groups at (code.submatch atomic first last continuation) = are_loop_free false at first last continuation
+  leaves_groups at (code.submatch (lookaround false backward) first last continuation) = nat_le last first || (are_loop_free program true at first last continuation && have_ranks h at continuation)
+  leaves_groups at (code.submatch atomic first last continuation) = are_loop_free program false at first last continuation
   leaves_groups at i = true

@@ -8,19 +8,21 @@ use Rattle.regress_engine_runs.specs.Runs.{fields_of}
 use Rattle.regress_engine_memory.specs.Deciding.{Table, calm_at, live_at}
 use Rattle.regress_engine_memory.specs.Needs.{taken_by}
 use Rattle.regress_engine_memory.specs.Passing.{all_pass}
-use Rattle.regress_engine_linear.specs.Ranks.{Ranking}
+use Rattle.regress_engine_linear.specs.Ranks.{Ranking, asked_less}
 use Rattle.regress_engine_linear.specs.declared.ranks.RankTable.{RankTable}
 
--- For each address its rank and whether it is read forward; for each loop the rank of where its body begins; and the addresses by rank.
+-- For each address its rank, whether it is read forward, and where it goes on outside of the atomic group around it, or the address behind the
+-- last; for each loop the rank of where its body begins; and the addresses by rank.
 pub record Heights : Type 0 where
   pub ranks : List ℕ
   pub forward : List Bool
+  pub outside : List ℕ
   pub tops : List ℕ
   pub order : List ℕ
 
 -- what a table of the code is
 abbrev pub heights_of : RankTable → Heights
-heights_of t = record { ranks = t.ranks.items; forward = t.forward.items; tops = t.tops.items; order = t.order.items }
+heights_of t = record { ranks = t.ranks.items; forward = t.forward.items; outside = t.outside.items; tops = t.tops.items; order = t.order.items }
 
 module _ (h : Heights) where
   -- the rank of an address
@@ -31,13 +33,17 @@ module _ (h : Heights) where
   abbrev pub forward_at : ℕ → Bool
   forward_at a = get_or h.forward a false
 
+  -- where it goes on outside of the atomic group around an address
+  abbrev pub outside_at : ℕ → ℕ
+  outside_at a = get_or h.outside a 0
+
   -- the rank of where a loop's body begins
   abbrev pub top_of : ℕ → ℕ
   top_of id = get_or h.tops id 0
 
   -- what the table tells
   abbrev pub ranking_of : Ranking
-  ranking_of = record { count = length h.ranks; rank = rank_at; forward = forward_at; top = top_of }
+  ranking_of = record { count = length h.ranks; rank = rank_at; forward = forward_at; outside = outside_at; top = top_of }
 
   -- each of so many addresses stands in the order where its rank tells
   abbrev pub ArePlaced : (count : ℕ) → Type 0
@@ -49,20 +55,24 @@ module _ (h : Heights) where
 
   -- from an address it is led to another by taking so much at least, or the other is ranked lower
   abbrev pub lowers : (taken from to : ℕ) → Bool
-  lowers taken from to = is_read (forward_at from) to && (nat_lt 0 taken || nat_lt (rank_at to) (rank_at from))
+  lowers taken from to = is_read (forward_at from) to && ((outside_at to == outside_at from) && (nat_lt 0 taken || nat_lt (rank_at to) (rank_at from)))
 
-  -- the contents of a lookaround or an atomic group are read as its kind says
-  abbrev pub turns : Submatch → (at : ℕ) → Bool
-  turns (lookaround negated backward) at = is_read (not backward) (suc at)
-  turns atomic at = is_read (forward_at at) (suc at)
+  -- the contents of a lookaround or an atomic group are read as its kind says, and outside of an atomic group it goes on behind it
+  abbrev pub turns : Submatch → (at continuation : ℕ) → Bool
+  turns (lookaround negated backward) at continuation = is_read (not backward) (suc at)
+  turns atomic at continuation = is_read (forward_at at) (suc at) && (outside_at (suc at) == continuation)
 
   -- they are read as what is around them, and ranked lower, or backward where that is read forward
   abbrev pub is_apart : (at : ℕ) → Bool
   is_apart at = (is_read (forward_at at) (suc at) && nat_lt (rank_at (suc at)) (rank_at at)) || (forward_at at && not (forward_at (suc at)))
 
   -- both hold of them
-  abbrev pub holds_inside : Submatch → (at : ℕ) → Bool
-  holds_inside kind at = turns kind at && is_apart at
+  abbrev pub holds_inside : Submatch → (at continuation : ℕ) → Bool
+  holds_inside kind at continuation = turns kind at continuation && is_apart at
+
+  -- a goal is ranked above where it goes on outside of the atomic group whose contents it ends
+  abbrev pub leaves : (at : ℕ) → Bool
+  leaves at = nat_le (length h.ranks) (outside_at at) || nat_lt (rank_at (outside_at at)) (rank_at at)
 
   module _ (t : Table) where
     -- a repetition that begins at an address goes on from another
@@ -77,7 +87,7 @@ module _ (h : Heights) where
 
     -- an instruction at an address leads on to what is ranked lower, but where it takes something
     abbrev pub ranks : Program → (at : ℕ) → Instruction → Bool
-    ranks program at code.goal = true
+    ranks program at code.goal = leaves at
     ranks program at code.fail = true
     ranks program at (code.back k icase) = false
     ranks program at (code.jump a) = lowers 0 at a
@@ -85,7 +95,7 @@ module _ (h : Heights) where
     ranks program at (code.enter_loop f) = is_cycle at at f
     ranks program at (code.loop_again begin) = cycles at begin (fields_of (slice_get program.instructions begin))
     ranks program at (code.single_loop least most greedy) = lowers least at (suc (suc at))
-    ranks program at (code.submatch kind first last continuation) = lowers 0 at continuation && holds_inside kind at
+    ranks program at (code.submatch kind first last continuation) = lowers (asked_less kind) at continuation && holds_inside kind at continuation
     ranks program at i = lowers (taken_by i) at (suc at)
 
     -- it does where its address is calm

@@ -2,7 +2,7 @@
 use Rattle.std.specs.Prelude.{◌≡◌, ℕ, suc, ◌+◌, ◌<◌, ◌≤◌, ◌⊎◌, Bool, true, false, List, [], ◌∷◌, length, get_or}
 use Rattle.regress_meaning.specs.Meaning.{Direction}
 use Rattle.regress_meaning.specs.Inputs.{Input}
-use Rattle.regress_front_nodes.specs.Trees.{Submatch}
+use Rattle.regress_front_nodes.specs.Trees.{Submatch, lookaround, atomic}
 use Rattle.regress_front_nodes.specs.TreeMeaning.{submatch_direction}
 use Rattle.regress_engine_input.specs.Views.{direction_of}
 use Rattle.regress_engine_insn.specs.Instructions.{LoopFields, Instruction, Program, Stands}
@@ -14,25 +14,30 @@ use Rattle.regress_engine_memory.specs.Flow.{Flow}
 use Rattle.regress_engine_memory.specs.Needs.{taken_by}
 use Rattle.regress_engine_memory.specs.Under.{IsFurther}
 
--- For each of so many addresses a rank, and whether it is read forward; for each loop the rank of where its body begins.
+-- For each of so many addresses a rank, whether it is read forward, and where it goes on outside of the atomic group whose contents it is in,
+-- or an address that is not there; for each loop the rank of where its body begins.
 pub record Ranking : Type 0 where
   pub count : ℕ
   pub rank : ℕ → ℕ
   pub forward : ℕ → Bool
+  pub outside : ℕ → ℕ
   pub top : ℕ → ℕ
 
--- From an address it is led to another by taking at least so much: something, or the other is ranked lower. It is read as the first is.
+-- From an address it is led to another by taking at least so much: something, or the other is ranked lower. It is read as the first is, in the
+-- same atomic group.
 pub record Lowers (r : Ranking) (taken from to : ℕ) : Type 0 where
   pub within : to < r.count
   pub way : r.forward to ≡ r.forward from
+  pub same : r.outside to ≡ r.outside from
   pub rank : (1 ≤ taken) ⊎ (r.rank to < r.rank from)
 
 -- The contents of a lookaround or an atomic group are read as their kind says: as what is around them, and then they are ranked lower than
--- where they stand; or backward where that is read forward.
-pub record Inside (r : Ranking) (kind : Submatch) (at : ℕ) : Type 0 where
+-- where they stand; or backward where that is read forward. Outside of an atomic group it goes on behind it.
+pub record Inside (r : Ranking) (kind : Submatch) (at continuation : ℕ) : Type 0 where
   pub within : suc at < r.count
   pub way : direction_of (r.forward (suc at)) ≡ submatch_direction kind (direction_of (r.forward at))
   pub rank : ((r.forward (suc at) ≡ r.forward at) × (r.rank (suc at) < r.rank at)) ⊎ ((r.forward at ≡ true) × (r.forward (suc at) ≡ false))
+  pub outside : kind ≡ atomic → r.outside (suc at) ≡ continuation
 
 -- A repetition that begins at an address goes on from another: it is read forward, its body begins with its rank, and behind it its loop is
 -- not live.
@@ -44,9 +49,15 @@ pub record IsCycle (flow : Flow) (r : Ranking) (at begin : ℕ) (f : LoopFields)
   pub out : Lowers r 0 at f.exit
   pub left : flow.live f.exit f.loop_id ≡ true → ⊥
 
--- An instruction leads on to what is ranked lower, but where it takes something.
+-- Of the rank of where it goes on behind an atomic group nothing is asked, as behind what takes something: its contents lead there.
+abbrev pub asked_less : Submatch → ℕ
+asked_less (lookaround negated backward) = 0
+asked_less atomic = 1
+
+-- An instruction leads on to what is ranked lower, but where it takes something; and the goal of an atomic group's contents is ranked above
+-- where it goes on outside.
 abbrev pub Ranks : Flow → Ranking → Program → (at : ℕ) → Instruction → Type 0
-Ranks flow r program at code.goal = Unit {0}
+Ranks flow r program at code.goal = r.outside at < r.count → r.rank (r.outside at) < r.rank at
 Ranks flow r program at code.fail = Unit {0}
 Ranks flow r program at (code.back k icase) = ⊥
 Ranks flow r program at (code.jump a) = Lowers r 0 at a
@@ -54,7 +65,7 @@ Ranks flow r program at (code.alt a) = Lowers r 0 at (suc at) × Lowers r 0 at a
 Ranks flow r program at (code.enter_loop f) = IsCycle flow r at at f
 Ranks flow r program at (code.loop_again begin) = (f : LoopFields) × Stands program begin (code.enter_loop f) × IsCycle flow r at begin f
 Ranks flow r program at (code.single_loop least most greedy) = Lowers r least at (suc (suc at))
-Ranks flow r program at (code.submatch kind first last continuation) = Lowers r 0 at continuation × Inside r kind at
+Ranks flow r program at (code.submatch kind first last continuation) = Lowers r (asked_less kind) at continuation × Inside r kind at continuation
 Ranks flow r program at i = Lowers r (taken_by i) at (suc at)
 
 -- Each instruction at a calm address does.

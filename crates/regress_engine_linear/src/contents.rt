@@ -4,7 +4,7 @@ ghost use Rattle.regress_engine_insn.specs.Instructions.{Program};
 ghost use Rattle.regress_engine_insn.specs.InsnViews.{instruction};
 ghost use Rattle.regress_engine_memory.specs.Passing.{all_pass};
 ghost use Rattle.regress_engine_linear.specs.Linear.{leads_through};
-ghost use Rattle.regress_engine_linear.specs.LinearTests.{are_loop_free, leads_inside, leaves_groups};
+ghost use Rattle.regress_engine_linear.specs.LinearTests.{are_loop_free, have_ranks, leads_inside, leaves_groups};
 ghost use Rattle.regress_engine_linear.specs.RankTables.{heights_of, rank_at};
 
 use crate::ranks::RankTable;
@@ -120,29 +120,29 @@ impl Passage {
         }
         true
     }
+
+    /// Whether the contents have no loop.
+    fn is_loop_free(&self, insns: &[Insn]) -> bool
+        requires { self.now.at < length insns.now }
+        ensures { (program : Program) → program.instructions ≡ map instruction insns.now
+            → result ≡ are_loop_free program self.now.nests self.now.at self.now.first self.now.last self.now.end }
+    {
+        self.at + 1 < self.end && self.lead_through(insns)
+    }
 }
 
 impl RankTable {
     /// Whether as many ranks lie between where contents stand and what is behind them as they have instructions.
-    fn have_ranks(&self, passage: &Passage) -> bool
-        requires { passage.now.at < passage.now.end }
-        ensures { result ≡ nat_le (rank_at (heights_of self.now) passage.now.end + (passage.now.end - passage.now.at)) (rank_at (heights_of self.now) passage.now.at) }
+    fn have_ranks(&self, at: usize, end: usize) -> bool
+        ensures { result ≡ have_ranks (heights_of self.now) at end }
     {
-        let low = self.rank(passage.end);
-        let high = self.rank(passage.at);
-        low <= high && passage.end - passage.at <= high - low
+        let low = self.rank(end);
+        let high = self.rank(at);
+        low <= high && end.saturating_sub(at) <= high - low
     }
 
-    /// Whether contents have no loop, and ranks enough.
-    fn are_loop_free(&self, passage: &Passage, insns: &[Insn]) -> bool
-        requires { passage.now.at < length insns.now }
-        ensures { (program : Program) → program.instructions ≡ map instruction insns.now
-            → result ≡ are_loop_free (heights_of self.now) program passage.now.nests passage.now.at passage.now.first passage.now.last passage.now.end }
-    {
-        passage.at + 1 < passage.end && self.have_ranks(passage) && passage.lead_through(insns)
-    }
-
-    /// Whether what a lookaround or an atomic group at an address leaves is as it has to be: its contents have no loop, if they are gone through.
+    /// Whether what a lookaround or an atomic group at an address leaves is as it has to be: its contents have no loop, if they are gone
+    /// through, and those of a lookaround ranks enough.
     fn leaves_groups(&self, insns: &[Insn], at: usize, insn: &Insn) -> bool
         requires { at < length insns.now }
         ensures { (program : Program) → program.instructions ≡ map instruction insns.now
@@ -168,7 +168,8 @@ impl RankTable {
                     end: *continuation as usize,
                     nests: true,
                 };
-                passage.last <= passage.first || self.are_loop_free(&passage, insns)
+                passage.last <= passage.first
+                    || (passage.is_loop_free(insns) && self.have_ranks(at, passage.end))
             }
             Insn::Atomic {
                 start_group,
@@ -182,7 +183,7 @@ impl RankTable {
                     end: *continuation as usize,
                     nests: false,
                 };
-                self.are_loop_free(&passage, insns)
+                passage.is_loop_free(insns)
             }
             _ => true,
         }

@@ -20,6 +20,8 @@ struct Contents {
     end: usize,
     /// Whether they are read forward.
     is_forward: bool,
+    /// Whether they are those of an atomic group.
+    is_atomic: bool,
 }
 
 /// Leaves the contents that end at an address or before.
@@ -38,32 +40,57 @@ fn contents_of(insn: &Insn, is_forward: bool) -> Option<Contents> {
         Insn::Lookahead { continuation, .. } => Some(Contents {
             end: *continuation as usize,
             is_forward: true,
+            is_atomic: false,
         }),
         Insn::Lookbehind { continuation, .. } => Some(Contents {
             end: *continuation as usize,
             is_forward: false,
+            is_atomic: false,
         }),
         Insn::Atomic { continuation, .. } => Some(Contents {
             end: *continuation as usize,
             is_forward,
+            is_atomic: true,
         }),
         _ => None,
     }
 }
 
-/// The addresses of a program that are read forward.
-fn forward(alloc: Global, insns: &[Insn]) -> Result<Vec<bool>, AllocError> {
-    let mut forward = Vec::new(alloc);
+/// For each address of a program the innermost contents that it is in.
+fn contents_around(alloc: Global, insns: &[Insn]) -> Result<Vec<Option<Contents>>, AllocError> {
+    let mut innermost: Vec<Option<Contents>> = Vec::new(alloc);
     let mut around: Vec<Contents> = Vec::new(alloc);
     for at in 0..insns.len() {
         leave(&mut around, at);
-        let is_forward = around.last().is_none_or(|contents| contents.is_forward);
-        forward.push(is_forward)?;
+        let own = around.last().copied();
+        innermost.push(own)?;
+        let is_forward = own.is_none_or(|contents| contents.is_forward);
         if let Some(contents) = contents_of(&insns[at], is_forward) {
             around.push(contents)?;
         }
     }
+    Ok(innermost)
+}
+
+/// The addresses that are read forward.
+fn forward(alloc: Global, around: &[Option<Contents>]) -> Result<Vec<bool>, AllocError> {
+    let mut forward = Vec::new(alloc);
+    for contents in around {
+        forward.push(contents.is_none_or(|contents| contents.is_forward))?;
+    }
     Ok(forward)
+}
+
+/// For each address where it goes on outside of the atomic group whose contents it is in, or the address behind the last.
+fn outside(alloc: Global, around: &[Option<Contents>]) -> Result<Vec<usize>, AllocError> {
+    let mut outside: Vec<usize> = Vec::new(alloc);
+    for contents in around {
+        match contents {
+            Some(contents) if contents.is_atomic => outside.push(contents.end)?,
+            _ => outside.push(around.len())?,
+        }
+    }
+    Ok(outside)
 }
 
 /// For each address the first from it on at which a repetition begins, or the address behind the last.
@@ -82,7 +109,7 @@ fn next_loops(alloc: Global, insns: &[Insn]) -> Result<Vec<usize>, AllocError> {
     Ok(next)
 }
 
-/// The addresses inside of contents in which no repetition begins.
+/// The addresses inside of contents of lookarounds in which no repetition begins.
 fn loop_free(alloc: Global, insns: &[Insn]) -> Result<Vec<bool>, AllocError> {
     let next = next_loops(alloc, insns)?;
     let mut free = Vec::new(alloc);
@@ -90,6 +117,7 @@ fn loop_free(alloc: Global, insns: &[Insn]) -> Result<Vec<bool>, AllocError> {
     for at in 0..insns.len() {
         free.push(at < end)?;
         if let Some(contents) = contents_of(&insns[at], true)
+            && !contents.is_atomic
             && at < next.len()
             && contents.end <= next[at]
         {
@@ -109,13 +137,14 @@ fn above(ranks: &[usize], at: usize) -> usize {
 }
 
 /// The rank of an address as its instruction suggests it, where those of the addresses behind it are known, and of those before it what was
-/// thought before. Behind what takes something ranks may begin anew, but not inside of contents without loops: these are ranked between where
-/// they stand and what is behind them.
+/// thought before. Behind what takes something ranks may begin anew, but not inside of lookarounds without loops: their contents are ranked
+/// between where they stand and what is behind them. The contents of an atomic group end above where it goes on outside.
 fn suggested_rank(
     insns: &[Insn],
     ranks: &[usize],
     before: &[usize],
     is_free: bool,
+    outside: usize,
     at: usize,
 ) -> usize {
     let Some(insn) = insns.get(at) else {
@@ -123,7 +152,8 @@ fn suggested_rank(
     };
     let next = above(ranks, at.saturating_add(1));
     match insn {
-        Insn::Goal | Insn::JustFail | Insn::BackRef { .. } => { if is_free { next } else { 0 } }
+        Insn::Goal => above(ranks, outside).max(if is_free { next } else { 0 }),
+        Insn::JustFail | Insn::BackRef { .. } => { if is_free { next } else { 0 } }
         Insn::Jump { target } => above(ranks, *target as usize),
         Insn::Alt { secondary } => next.max(above(ranks, *secondary as usize)),
         Insn::EnterLoop(repetition) => next.max(above(ranks, repetition.exit as usize)),
@@ -139,9 +169,10 @@ fn suggested_rank(
         }
         Insn::Loop1CharBody { min_iters: 0, .. } => above(ranks, at.saturating_add(2)),
         Insn::Loop1CharBody { .. } => 0,
-        Insn::Lookahead { continuation, .. }
-        | Insn::Lookbehind { continuation, .. }
-        | Insn::Atomic { continuation, .. } => next.max(above(ranks, *continuation as usize)),
+        Insn::Lookahead { continuation, .. } | Insn::Lookbehind { continuation, .. } => {
+            next.max(above(ranks, *continuation as usize))
+        }
+        Insn::Atomic { .. } => next,
         _ => {
             if taken_by(insn) > 0 && !is_free {
                 0
@@ -158,12 +189,14 @@ fn suggested_ranks(
     insns: &[Insn],
     before: &[usize],
     free: &[bool],
+    outside: &[usize],
 ) -> Result<Vec<usize>, AllocError> {
     let mut ranks: Vec<usize> = Vec::new(alloc);
     ranks.resize(insns.len(), 0)?;
     for at in (0..insns.len()).rev() {
         let is_free = at < free.len() && free[at];
-        let rank = suggested_rank(insns, &ranks, before, is_free, at);
+        let behind = outside.get(at).copied().unwrap_or(insns.len());
+        let rank = suggested_rank(insns, &ranks, before, is_free, behind, at);
         if at < ranks.len() {
             ranks[at] = rank;
         }
@@ -172,11 +205,11 @@ fn suggested_ranks(
 }
 
 /// The addresses of a program, those first to which the instructions of others may lead without taking anything.
-fn order(alloc: Global, insns: &[Insn]) -> Result<Vec<usize>, AllocError> {
+fn order(alloc: Global, insns: &[Insn], outside: &[usize]) -> Result<Vec<usize>, AllocError> {
     let free = loop_free(alloc, insns)?;
     let mut ranks: Vec<usize> = Vec::new(alloc);
     for _ in 0..MOST_ROUNDS {
-        let suggested = suggested_ranks(alloc, insns, &ranks, &free)?;
+        let suggested = suggested_ranks(alloc, insns, &ranks, &free, outside)?;
         if suggested == ranks {
             break;
         }
@@ -239,11 +272,14 @@ impl RankTable {
             → are_ranked (heights_of table) (table_of flow.now) program ≡ true)) }
         ensures placed { IfOk result (λ found. IfSome found (λ table. ArePlaced (heights_of table) (length insns.now))) }
     {
-        let order = order(alloc, insns)?;
+        let around = contents_around(alloc, insns)?;
+        let outside = outside(alloc, &around)?;
+        let order = order(alloc, insns, &outside)?;
         let ranks = places(alloc, &order)?;
         let table = RankTable {
             tops: tops(alloc, insns, &ranks, loops)?,
-            forward: forward(alloc, insns)?,
+            forward: forward(alloc, &around)?,
+            outside,
             ranks,
             order,
         };

@@ -4,12 +4,13 @@ ghost use Rattle.regress_engine_insn.specs.Instructions.{Program};
 ghost use Rattle.regress_engine_insn.specs.InsnViews.{fields, instruction};
 ghost use Rattle.regress_engine_runs.specs.Runs.{fields_of};
 ghost use Rattle.regress_engine_memory.specs.TableViews.{table_of};
-ghost use Rattle.regress_engine_linear.specs.RankTables.{ArePlaced, are_ranked, cycles, forward_at, heights_of, is_apart, is_cycle, is_read, lowers, rank_at, ranks, top_of};
+ghost use Rattle.regress_engine_linear.specs.RankTables.{ArePlaced, are_ranked, cycles, forward_at, heights_of, is_apart, is_cycle, is_read, leaves, lowers, outside_at, rank_at, ranks, top_of};
 
 use regress_engine_insn::{Insn, LoopFields};
 use regress_engine_memory::{FlowTable, taken_by};
 
-/// For each address of a program its rank and whether it is read forward, and for each loop the rank of where its body begins.
+/// For each address of a program its rank, whether it is read forward, and where it goes on outside of the atomic group around it; and for
+/// each loop the rank of where its body begins.
 #[derive(Debug, Drop)]
 pub struct RankTable {
     /// The rank of an address: its place in the order.
@@ -18,6 +19,8 @@ pub struct RankTable {
     pub(crate) order: Vec<usize>,
     /// Whether an address is read forward.
     pub(crate) forward: Vec<bool>,
+    /// Where it goes on outside of the atomic group whose contents an address is in, or the address behind the last.
+    pub(crate) outside: Vec<usize>,
     /// The rank of where the body of a loop begins.
     pub(crate) tops: Vec<usize>,
 }
@@ -39,6 +42,17 @@ impl RankTable {
         ensures { result ≡ forward_at (heights_of self.now) at }
     {
         at < self.forward.len() && self.forward[at]
+    }
+
+    /// Where it goes on outside of the atomic group around an address.
+    fn outside(&self, at: usize) -> usize
+        ensures { result ≡ outside_at (heights_of self.now) at }
+    {
+        if at < self.outside.len() {
+            self.outside[at]
+        } else {
+            0
+        }
     }
 
     /// The rank of where the body of a loop begins.
@@ -64,11 +78,21 @@ impl RankTable {
             }
     }
 
-    /// Whether it may be led from an address to another by taking so much at least: something is taken, or the other is ranked lower.
+    /// Whether it may be led from an address to another, in the same atomic group, by taking so much at least: something is taken, or the
+    /// other is ranked lower.
     fn lowers(&self, taken: usize, from: usize, to: usize) -> bool
         ensures { result ≡ lowers (heights_of self.now) taken from to }
     {
-        self.is_read(self.is_forward(from), to) && (taken > 0 || self.rank(to) < self.rank(from))
+        self.is_read(self.is_forward(from), to)
+            && (self.outside(to) == self.outside(from)
+                && (taken > 0 || self.rank(to) < self.rank(from)))
+    }
+
+    /// Whether a goal is ranked above where it goes on outside of the atomic group whose contents it ends.
+    fn leaves(&self, at: usize) -> bool
+        ensures { result ≡ leaves (heights_of self.now) at }
+    {
+        self.ranks.len() <= self.outside(at) || self.rank(self.outside(at)) < self.rank(at)
     }
 
     /// Whether the contents behind an address are read as what is around them, and ranked lower, or backward where that is read forward.
@@ -113,7 +137,8 @@ impl RankTable {
             → result ≡ ranks (heights_of self.now) (table_of flow.now) program at (instruction insn.now) }
     {
         match insn {
-            Insn::Goal | Insn::JustFail => true,
+            Insn::Goal => self.leaves(at),
+            Insn::JustFail => true,
             Insn::BackRef { .. } => false,
             Insn::Jump { target } => self.lowers(0, at, *target as usize),
             Insn::Alt { secondary } => {
@@ -131,8 +156,10 @@ impl RankTable {
                     && (self.is_read(false, at + 1) && self.is_apart(at))
             }
             Insn::Atomic { continuation, .. } => {
-                self.lowers(0, at, *continuation as usize)
-                    && (self.is_read(self.is_forward(at), at + 1) && self.is_apart(at))
+                let end = *continuation as usize;
+                self.lowers(1, at, end)
+                    && ((self.is_read(self.is_forward(at), at + 1) && self.outside(at + 1) == end)
+                        && self.is_apart(at))
             }
             _ => self.lowers(taken_by(insn), at, at + 1),
         }

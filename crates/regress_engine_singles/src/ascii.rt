@@ -89,7 +89,7 @@ impl<Input: InputIndexer> ByteMatcher<Input> for AllBut {
 
 /// The offset behind as many characters of ASCII ahead of one as pass one after another, at most so many, where they stand in
 /// bytes; over units the offset itself.
-#[inline]
+#[inline(always)]
 pub(crate) fn ascii_end<Input: InputIndexer, Matcher: ByteMatcher<Input>>(
     input: &Input,
     matcher: &Matcher,

@@ -66,6 +66,7 @@ pub(crate) fn next_stop(stops: [u8; 3], bytes: &[u8], offset: usize) -> usize
 /// The offset behind as many characters ahead of one as a class matches one after another, where that is told by a search for
 /// the next byte that it does not match: where it matches all but a few characters of ASCII, over bytes, of which no more than
 /// `times` are left.
+#[inline(always)]
 pub(crate) fn as_far_searched<Input: InputIndexer>(
     input: &Input,
     class: &BracketContents,

@@ -33,7 +33,7 @@ pub struct Taken {
 
 /// The first of the characters ahead of an offset that pass a test one after another, at most so many more than one: those of
 /// ASCII, or one alone; `None` where the first does not pass.
-#[inline]
+#[inline(always)]
 fn first_taken<Input: InputIndexer, Matcher: ByteMatcher<Input>>(
     input: &Input,
     matcher: &Matcher,
@@ -62,7 +62,7 @@ fn first_taken<Input: InputIndexer, Matcher: ByteMatcher<Input>>(
 
 /// The characters ahead of an offset that pass a test one after another, the first and at most so many more; `None` where the
 /// first does not pass.
-#[inline]
+#[inline(always)]
 fn taken_beside<Input: InputIndexer, Matcher: ByteMatcher<Input>>(
     input: &Input,
     matcher: &Matcher,

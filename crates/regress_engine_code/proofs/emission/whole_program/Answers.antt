@@ -13,6 +13,7 @@ use Rattle.regress_front_nodes.specs.WellFormed.{IsWellFormed}
 use Rattle.regress_front_nodes.proofs.NameLemmas.{names-counted}
 use Rattle.regress_engine_insn.specs.InsnViews.{instruction}
 use Rattle.regress_engine_analysis.specs.Planned.{ArePlanned}
+use Rattle.regress_engine_analysis.specs.Submatches.{has_submatches}
 use Rattle.regress_engine_insn.specs.ProgramViews.{program_from}
 use Rattle.regress_engine_insn.specs.Layout.{Target, IsLayout}
 use Rattle.regress_engine_code.specs.Written.{written, AddsTree}
@@ -84,7 +85,8 @@ invariant_of-result c =
       ) ∣₁;
       planned = subst (λ brackets. ArePlanned (program_from c.node.new.code.insns.items brackets c.from.result c.in_ok-groups.groups c.args.units) c.in_ok-plan.plan.facts.items) c.deref-3.ensures.value
           (subst (λ insns. ArePlanned (program_from insns c.deref-3.result.now c.from.result c.in_ok-groups.groups c.args.units) c.in_ok-plan.plan.facts.items) c.deref-2.ensures.value
-          (c.in_ok-plan.ensures c.from.result c.in_ok-groups.groups));
+          (c.in_ok-plan.ensures.planned c.from.result c.in_ok-groups.groups));
+      submatches = c.in_ok-plan.ensures.submatches ∙ ap has_submatches c.deref-2.ensures.value;
     }
 
 pub returns-in_err-groups-clause-refused : goal.returns-in_err-groups-clause-refused

@@ -1,9 +1,10 @@
 use Rattle.std.specs.Prelude.{IfErr}
 use Rattle.std.proofs.Common.{◌≡◌, ℕ, Option, Some, IfOk, IfSome, option_map, sym, ◌∙◌, subst}
 use Rattle.regress_meaning.specs.Offsets.{Begins}
+use Rattle.regress_match.specs.GroupViews.{names_of_match}
 use Rattle.regress_match.specs.Views.{item_of}
 use Rattle.regress_engine_code.specs.declared.compiled.CompiledRegex.{CompiledRegex}
-use Rattle.regress_engine_code.specs.Standing.{target_of}
+use Rattle.regress_engine_code.specs.Standing.{names_of, target_of}
 use Rattle.regress_engine_input.specs.Views.{View, reading_of}
 use Rattle.regress_engine_search.specs.Search.{IsItemAtPlaces}
 use Rattle.regress_engine_exec.specs.Searches.{budget_of, turns_in}
@@ -37,6 +38,10 @@ returns-clause-inside g c =
     let shown : g.Input.InputIndexer.view context.input ≡ g.Input.InputIndexer.view c.args.input =
     sym (g.met.Input.ExecutorInput.shows context.input) ∙ c.with_budget-executor.ensures.text in
     subst (λ v. IfOk c.first_of.result (λ found. IfSome found (λ m. IsItemAtPlaces (reading_of v) (item_of m)))) shown c.first_of.ensures.inside
+
+pub returns-clause-named : goal.returns-clause-named
+returns-clause-named g c =
+    subst (λ (p : CompiledRegex). IfOk c.first_of.result (λ found. IfSome found (λ m. names_of_match m ≡ names_of p))) c.with_budget-executor.ensures.program c.first_of.ensures.named
 
 pub returns-clause-stopped : goal.returns-clause-stopped
 returns-clause-stopped g c =

@@ -33,8 +33,8 @@ loop-at-preserved c =
           (so-more program sets facts f (c.loop-at.invariant.known program same) (subst (λ n. IsSo program sets n f.known) (sym size) here) at (omega (arith, within, ap length pushed)));
     }
 
-pub returns : goal.returns
-returns c = λ loops groups.
+pub returns-clause-planned : goal.returns-clause-planned
+returns-clause-planned c = λ loops groups.
     let facts = c.loop-at.facts.items in
     let sets = c.in_ok-sets.sets.items in
     let program : Program = program_from c.args.insns.now c.args.brackets.now loops groups c.args.units in

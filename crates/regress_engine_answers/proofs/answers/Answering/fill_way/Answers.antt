@@ -5,7 +5,7 @@ use Rattle.regress_engine_answers.specs.Filled.{IsFilled}
 use Rattle.regress_engine_linear.specs.Places.{IsBehind, offset_of}
 use Rattle.regress_engine_linear.specs.LinearViews.{flow_in, heights_in}
 use Rattle.regress_engine_answers.proofs.FillLemmas.{next-offset}
-use Rattle.regress_engine_answers.proofs.FillingWays.{offset-is, step-behind, step-within}
+use Rattle.regress_engine_linear.proofs.NextPlaces.{offset-is, step-behind, step-within}
 use Rattle.regress_engine_linear.proofs.NextPlaces.{first-awaited}
 use Rattle.regress_engine_answers.proofs.answers.Answering.fill_way.Goals as goal
 use Rattle.regress_engine_answers.proofs.answers.Answering.fill_way.Goals.{then-forward, else-forward, then-forward-2, else-forward-2}

@@ -20,10 +20,11 @@ invariant_of-result c =
     let same : program_from c.in_ok-to_vec.field-0.items c.in_ok-copies_of.field-0.items self.loops self.groups self.units ≡ program_of self = search rules in
     let laid : ∥ IsLaid (target_from (program_of self) self.tables self.flags) copy ∥₁ = ∥∥₁_elim self.laid ∥∥₁_prop
     (λ (n, t, formed, layout, serves). ∣ (n, t, formed, layout, copy-serves self.units t self.start_pred copy c.in_ok-copy.ensures serves) ∣₁) in
-    let facts : c.in_ok-try_clone-2.field-0.facts.items ≡ self.plan.facts.items = c.in_ok-try_clone-2.ensures in
+    let facts : c.in_ok-try_clone-2.field-0.facts.items ≡ self.plan.facts.items = c.in_ok-try_clone-2.ensures.facts in
     let shared : table c.in_ok-try_clone.field-0 ≡ table self.tables = ap table_known c.in_ok-try_clone.ensures in
     record {
       laid = subst (λ (x : Table). ∥ IsLaid (record { program = program_from c.in_ok-to_vec.field-0.items c.in_ok-copies_of.field-0.items self.loops self.groups self.units; table = x; unicode = is_unicode (options self.flags) }) copy ∥₁)
           (sym shared) (subst (λ (p : Program). ∥ IsLaid (target_from p self.tables self.flags) copy ∥₁) (sym same) laid);
       planned = subst (λ (p : Program). ArePlanned p c.in_ok-try_clone-2.field-0.facts.items) (sym same) (subst (ArePlanned (program_of self)) (sym facts) self.planned);
+      submatches = search rules;
     }

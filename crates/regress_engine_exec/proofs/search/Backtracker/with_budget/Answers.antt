@@ -1,5 +1,6 @@
 use Rattle.std.specs.Prelude.{option_copied}
 use Rattle.std.proofs.Common.{ap, length, subst, sym, ◌∙◌}
+use Rattle.std.proofs.Math.Logic.{∥∥₁_map}
 use Rattle.regress_engine_input.specs.Views.{View}
 use Rattle.regress_engine_code.specs.Standing.{program_of}
 use Rattle.regress_engine_attempt.specs.Attempts.{world_of}
@@ -17,6 +18,6 @@ invariant_of-result g c =
     let tells = subst (λ r. TellsLinear (program_of r.now) (option_copied c.args.table)) (sym made) c.requires.linear in
     record {
       so = ∣ c.new-remembered.ensures (world_of program shown) ∣₁;
-      turns = turns-made (program_of program) shown _ c.turning_over-turning.result c.text_len-units.result (c.text_len-units.ensures ∙ seen) tells
-          c.turning_over-turning.ensures.table c.turning_over-turning.ensures.untold;
+      turns = ∥∥₁_map (turns-made (program_of program) shown _ c.turning_over-turning.result c.text_len-units.result (c.text_len-units.ensures ∙ seen) tells
+          c.turning_over-turning.ensures.table c.turning_over-turning.ensures.untold) (λ so. record { lent = so; own = tt });
     }

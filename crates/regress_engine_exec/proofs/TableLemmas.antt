@@ -1,0 +1,103 @@
+-- How many steps an iteration takes to walk along its matches.
+use Rattle.std.specs.Prelude.{IfOk, IfSome, OnOk, Result, Ok, Err, length, option_map}
+use Rattle.std.specs.Result.{result_transpose}
+use Rattle.std.proofs.Common.{◌≡◌, ◌==◌, ℕ, suc, ◌+◌, ◌-◌, ◌*◌, ◌<◌, ◌≤◌, ◌⊎◌, inl, inr, Bool, true, false, if◌then◌else◌, Option, Some, None, refl, sym, ap, ◌∙◌, subst, arith}
+use Rattle.std.proofs.Math.Nat.{mul-le-mul_left}
+use Rattle.std.proofs.lemmas.Bool.{cases_lt, ne_eqb}
+use Rattle.regress_meaning.specs.Meaning.{Forward}
+use Rattle.regress_meaning.specs.Matches.{Item}
+use Rattle.regress_engine_input.specs.Views.{View, input_of, reading_of}
+use Rattle.regress_engine_insn.specs.Instructions.{Program}
+use Rattle.regress_engine_runs.specs.Items.{Finds, goes_on}
+use Rattle.regress_engine_runs.proofs.FoundItems.{finds-from, goes_on-past}
+use Rattle.regress_engine_search.specs.Search.{IsItemAtPlaces}
+use Rattle.regress_engine_search.proofs.PlaceLemmas.{moves}
+use Rattle.regress_engine_linear.specs.LinearViews.{heights_in}
+use Rattle.regress_engine_linear.specs.declared.testing.LinearTable.{LinearTable}
+use Rattle.regress_engine_answers.specs.Searched.{StepsTo, fill_steps}
+use Rattle.regress_engine_answers.specs.declared.searching.TextTable.{TextTable}
+use Rattle.regress_engine_exec.specs.Turned.{CountsTold, UnlessErr, ahead, filled_by, most_walked, told_steps}
+use Rattle.regress_engine_exec.specs.declared.turning.Turning.{Turning}
+
+-- what follows for what was answered
+pub if-ok : {T E : Type 0} {P Q : T → Type 0} (r : Result T E) → ((x : T) → P x → Q x) → IfOk r P → IfOk r Q
+if-ok (Ok x) so known = so x known
+if-ok (Err e) so known = tt
+
+-- what is so of numbers is so of as many times another
+scaled : (w x y n : ℕ) → w + 2 * x ≤ 2 * y → w * n + 2 * (x * n) ≤ 2 * (y * n)
+scaled w x y n low = let more = mul-le-mul_left n low in omega (arith, more)
+
+once : (w y n : ℕ) → w ≤ 2 * y → w * n + 0 ≤ 2 * (y * n)
+once w y n low = let more = mul-le-mul_left n low in omega (arith, more)
+
+-- what was counted on a way is no more than a walk along it takes
+walked : (before after n x y z : ℕ) → after + x * n ≤ before + y * n + n → y ≤ x + z → after ≤ before + suc z * n
+walked before after n x y z low far = let more = mul-le-mul_left n far in omega (arith, low, more)
+
+module _ (v : View) (old mid : Turning) (told : TextTable) (steps : ℕ) where
+  -- a search by tables took no more steps than its walk
+  pub counts-told : (found : Option (ℕ × ℕ)) → mid.told ≡ Some told → mid.table.now ≡ old.table.now → told_steps v mid ≤ told_steps v old
+      → StepsTo mid.table.now v mid.steps steps found → CountsTold v old (record { table = mid.table; told = mid.told; steps = steps }) found
+  counts-told None is same low counted = rw (is) (omega (arith, counted, filled))
+    where
+      filled : mid.steps + 0 ≤ told_steps v old
+      filled = subst (λ o. mid.steps + elim o [ None ↦ fill_steps mid.table.now v | Some x ↦ 0 ] ≤ told_steps v old) is low
+  counts-told (Some (start, end)) is same low counted = rw (is) (omega (arith, walk, filled))
+    where
+      filled : mid.steps + 0 ≤ told_steps v old
+      filled = subst (λ o. mid.steps + elim o [ None ↦ fill_steps mid.table.now v | Some x ↦ 0 ] ≤ told_steps v old) is low
+
+      walk : steps ≤ mid.steps + suc (end - start) * length (heights_in old.table.now).order
+      walk = subst (λ t. steps ≤ mid.steps + suc (end - start) * length (heights_in t).order) same
+          (walked mid.steps steps (length (heights_in mid.table.now).order) (length v.units - end) (length v.units - start) (end - start) counted (omega arith))
+
+-- to make the table of a text, and to walk along all its matches by it, takes no more steps than are enough for the searches before
+pub enough-by-table : (table : LinearTable) (v : View) (at : ℕ)
+    → filled_by (Some table) v + ahead (Some table) (length v.units) (Some at) ≤ 4 * (length (heights_in table).order * (length v.units + 64))
+enough-by-table table v at =
+    let n = length (heights_in table).order in
+    let units = length v.units in
+    let fewer : suc units - at ≤ units + 64 = omega arith in
+    let less : suc units ≤ units + 64 = omega arith in
+    let walks : n * (suc units - at) ≤ n * (units + 64) = mul-le-mul_left n fewer in
+    let fills : n * suc units ≤ n * (units + 64) = mul-le-mul_left n less in
+    omega (arith, walks, fills)
+
+-- where nothing is found nothing is ahead
+pub none-ahead : (table : Option LinearTable) (units at before after : ℕ) → after ≤ before + most_walked table None → after + ahead table units None ≤ before + ahead table units (Some at)
+none-ahead None units at before after low = omega (arith, low)
+none-ahead (Some table) units at before after low = omega (arith, low)
+
+-- what is so where a search succeeds is so behind a step, unless that erred
+pub unless-err : {T E : Type 0} (P : Type 0) (x : Result (Option T) E) (r : Option (Result T E)) → r ≡ result_transpose x → OnOk x P → UnlessErr r P
+unless-err P (Ok None) r is known = rw is known
+unless-err P (Ok (Some m)) r is known = rw is known
+unless-err P (Err e) r is known = rw is known
+
+module _ (program : Program) (v : View) (i : Item) (ordered : i.start ≤ i.end) where
+  -- a search goes on no earlier than where the item ends
+  goes_on-end : (q : ℕ) → goes_on program (input_of v) i ≡ Some q → i.end ≤ q
+  goes_on-end q e = by_ends (cases_lt i.start i.end)
+    where
+      past : i.start < q
+      past = goes_on-past program (input_of v) (moves v) i ordered q e
+
+      by_ends : (i.start < i.end) ⊎ (i.end ≤ i.start) → i.end ≤ q
+      by_ends (inl less) =
+          let far : (i.start == i.end) ≡ false = ne_eqb i.start i.end (λ same. absurd (omega (arith, same, less))) in
+          let f : Some i.end ≡ Some q = sym (ap (λ (b : Bool). if b then option_map (λ (x : ℕ × ℕ). x.1) ((input_of v).next Forward i.end) else Some i.end) far) ∙ e in
+          let same : i.end ≡ q = cc in
+          omega (arith, same)
+      by_ends (inr more) = omega (arith, more, past)
+
+  -- From a position on a walk along the item that is found, and what is still ahead behind it, is no more than what was ahead.
+  pub walk-ahead : (table : Option LinearTable) (units at : ℕ) (next : Option ℕ) → at ≤ i.start → i.end ≤ units → next ≡ goes_on program (input_of v) i
+      → most_walked table (Some (i.start, i.end)) + ahead table units next ≤ ahead table units (Some at)
+  walk-ahead None units at next from inside goes = omega arith
+  walk-ahead (Some table) units at None from inside goes =
+      once (suc (i.end - i.start)) (suc units - at) (length (heights_in table).order) (omega (arith, from, inside, ordered))
+  walk-ahead (Some table) units at (Some q) from inside goes =
+      let past = goes_on-past program (input_of v) (moves v) i ordered q (sym goes) in
+      let end = goes_on-end q (sym goes) in
+      scaled (suc (i.end - i.start)) (suc units - q) (suc units - at) (length (heights_in table).order) (omega (arith, from, inside, ordered, past, end))
