@@ -1,14 +1,19 @@
 -- What a search by a table of answers stands on.
-use Rattle.std.specs.Prelude.{◌≡◌, ◌+◌, ◌*◌, ◌≤◌, ℕ, suc, length, Option, Some, None}
+use Rattle.std.specs.Prelude.{◌≡◌, ◌+◌, ◌*◌, ◌≤◌, ℕ, suc, Bool, true, length, map, Option, Some, None}
 use Rattle.regress_meaning.specs.Meaning.{Forward}
 use Rattle.regress_engine_input.specs.Views.{View}
-use Rattle.regress_engine_insn.specs.Instructions.{Program}
+use Rattle.regress_engine_insn.specs.Instructions.{Instruction, Program}
+use Rattle.regress_engine_code.specs.Standing.{program_of}
 use Rattle.regress_engine_runs.specs.Runs.{room}
+use Rattle.regress_engine_search.specs.Ready.{IsReady, is_simple}
+use Rattle.regress_engine_search.specs.StateViews.{marks_of}
 use Rattle.regress_engine_linear.specs.Linear.{IsLinear}
 use Rattle.regress_engine_linear.specs.LinearViews.{flow_in, heights_in}
 use Rattle.regress_engine_linear.specs.declared.testing.LinearTable.{LinearTable}
-use Rattle.regress_engine_answers.specs.Filled.{AreRight}
+use Rattle.regress_engine_answers.specs.Filled.{AreRight, IsFilled}
 use Rattle.regress_engine_answers.specs.Walked.{AreExitsKnown}
+use Rattle.regress_engine_answers.specs.declared.answers.Answering.{Answering}
+use Rattle.regress_engine_answers.specs.declared.answers.Answers.{Answers}
 use Rattle.regress_engine_answers.specs.declared.searching.TextTable.{TextTable}
 
 -- What is told of a text is so.
@@ -32,3 +37,11 @@ StepsTo table v before after None = after ≡ before
 StepsTo table v before after (Some (start, end)) =
     after + room (length v.units) Forward end * length (heights_in table).order
     ≤ before + room (length v.units) Forward start * length (heights_in table).order + length (heights_in table).order
+
+-- what is told while a table is filled is so, by the ranks of its program, in the text that is worked out
+abbrev pub IsFilledIn : {I : Type 0} {g : _} → (I → View) → Answering I g → LinearTable → Answers → (forward : Bool) → (rank offset : ℕ) → Type 0
+IsFilledIn view x table a forward rank offset = IsFilled (flow_in table) (heights_in table) (program_of x.program.now) (view x.input) a forward rank offset
+
+-- an instruction that changes nothing but the offset is ready to be done at one
+abbrev pub IsReadyIn : {I : Type 0} {g : _} → (I → View) → Answering I g → Instruction → (offset : ℕ) → Type 0
+IsReadyIn view x i offset = is_simple i ≡ true → IsReady (program_of x.program.now) (view x.input) i (map marks_of x.groups.now) offset

@@ -7,12 +7,12 @@ ghost use Rattle.regress_engine_insn.specs.Instructions.{Instruction, Stands, su
 ghost use Rattle.regress_front_nodes.specs.Trees.{atomic};
 ghost use Rattle.regress_engine_runs.specs.Meets.{IsAtPlace, reads_character, referred};
 ghost use Rattle.regress_engine_runs.specs.Runs.{advance, after_times, counted, fields_of, one_by_one};
-ghost use Rattle.regress_engine_search.specs.Ready.{IsReady, is_simple};
 ghost use Rattle.regress_engine_search.specs.Search.{Suits};
 ghost use Rattle.regress_engine_search.specs.StateViews.{marks_of};
 ghost use Rattle.regress_engine_linear.specs.Answered.{again, behind, exits_at, exits_value_at, is_single, one_at, one_beyond, AreExitsOf, AreExitsRight, IsRepeated};
 ghost use Rattle.regress_engine_answers.specs.AnswerTables.{exits_by, in_set, told_by};
 ghost use Rattle.regress_engine_answers.specs.Filled.{IsPlaced};
+ghost use Rattle.regress_engine_answers.specs.Searched.{IsReadyIn};
 ghost use Rattle.regress_engine_answers.specs.Walked.{contents_end, value_at};
 
 use crate::walker::Station;
@@ -214,8 +214,7 @@ impl<'a, Input: ExecutorInput> Answering<'a, Input> {
         offset: usize,
     ) -> bool
         requires suits { Suits (program_of self.now.program.now) (Input.view self.now.input) }
-        requires ready { is_simple (instruction insn.now) ≡ true → IsReady (program_of self.now.program.now) (Input.view self.now.input) (instruction insn.now)
-            (map marks_of self.now.groups.now) offset }
+        requires ready { IsReadyIn Input.view self.now (instruction insn.now) offset }
         requires room { at + 1 < 2 ^ 64 }
         requires plain { is_single (instruction insn.now) ≡ false }
         requires groups { length self.now.groups.now ≡ (program_of self.now.program.now).groups }
@@ -282,8 +281,7 @@ impl<'a, Input: ExecutorInput> Answering<'a, Input> {
         offset: usize,
     ) -> Result<(), AllocError>
         requires suits { Suits (program_of self.now.program.now) (Input.view self.now.input) }
-        requires ready { is_simple (instruction insn.now) ≡ true → IsReady (program_of self.now.program.now) (Input.view self.now.input) (instruction insn.now)
-            (map marks_of self.now.groups.now) offset }
+        requires ready { IsReadyIn Input.view self.now (instruction insn.now) offset }
         requires room { at + 1 < 2 ^ 64 }
         requires within { at < length answers.old.offsets.items }
         requires plain { is_single (instruction insn.now) ≡ false }

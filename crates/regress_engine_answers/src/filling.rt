@@ -6,9 +6,9 @@ ghost use Rattle.regress_engine_insn.specs.InsnViews.{instruction};
 ghost use Rattle.regress_engine_runs.specs.Meets.{IsAtPlace, reads_character};
 ghost use Rattle.regress_engine_search.specs.Search.{Suits};
 ghost use Rattle.regress_engine_answers.specs.AnswerTables.{IsSized, exits_by, in_set, told_by};
-ghost use Rattle.regress_engine_answers.specs.Filled.{AreRight, IsFilled};
+ghost use Rattle.regress_engine_answers.specs.Filled.{AreRight};
 ghost use Rattle.regress_engine_linear.specs.Places.{IsAwaited, IsBehind, IsNextPlace, offset_of};
-ghost use Rattle.regress_engine_answers.specs.Searched.{fill_steps};
+ghost use Rattle.regress_engine_answers.specs.Searched.{IsFilledIn, fill_steps};
 ghost use Rattle.regress_engine_answers.specs.Walked.{AreExitsKnown};
 ghost use Rattle.regress_engine_linear.specs.Linear.{IsLinear, too_long};
 ghost use Rattle.regress_engine_linear.specs.LinearViews.{flow_in, heights_in};
@@ -93,9 +93,9 @@ impl<'a, Input: ExecutorInput> Answering<'a, Input> {
         requires place { is_place ≡ true → IsAtPlace (reading_of (Input.view self.now.input)) offset }
         requires apart { is_place ≡ false → IsAtPlace (reading_of (Input.view self.now.input)) offset → ⊥ }
         requires sized { IsSized (program_of self.now.program.now) answers.old }
-        requires filled { IsFilled (flow_in table.now) (heights_in table.now) (program_of self.now.program.now) (Input.view self.now.input) answers.old forward rank offset }
+        requires filled { IsFilledIn Input.view self.now table.now answers.old forward rank offset }
         ensures sized { OnOk result (IsSized (program_of self.now.program.now) answers.new) }
-        ensures filled { OnOk result (IsFilled (flow_in table.now) (heights_in table.now) (program_of self.now.program.now) (Input.view self.now.input) answers.new forward (suc rank) offset) }
+        ensures filled { OnOk result (IsFilledIn Input.view self.now table.now answers.new forward (suc rank) offset) }
     {
         let at = table.address(rank);
         if !table.is_due(forward, rank, at) {
@@ -125,10 +125,9 @@ impl<'a, Input: ExecutorInput> Answering<'a, Input> {
         requires place { is_place ≡ true → IsAtPlace (reading_of (Input.view self.now.input)) offset }
         requires apart { is_place ≡ false → IsAtPlace (reading_of (Input.view self.now.input)) offset → ⊥ }
         requires sized { IsSized (program_of self.now.program.now) answers.old }
-        requires filled { IsFilled (flow_in table.now) (heights_in table.now) (program_of self.now.program.now) (Input.view self.now.input) answers.old forward 0 offset }
+        requires filled { IsFilledIn Input.view self.now table.now answers.old forward 0 offset }
         ensures sized { OnOk result (IsSized (program_of self.now.program.now) answers.new) }
-        ensures filled { OnOk result (IsFilled (flow_in table.now) (heights_in table.now) (program_of self.now.program.now) (Input.view self.now.input) answers.new forward
-            (length (heights_in table.now).order) offset) }
+        ensures filled { OnOk result (IsFilledIn Input.view self.now table.now answers.new forward (length (heights_in table.now).order) offset) }
         ensures counted { OnOk result (steps.new ≤ steps.old + length (heights_in table.now).order) }
     {
         for rank in 0..table.count() {
@@ -166,10 +165,9 @@ impl<'a, Input: ExecutorInput> Answering<'a, Input> {
         requires lies { offset ≤ length (Input.view self.now.input).units }
         requires awaited { IsAwaited (Input.view self.now.input) (direction_of forward) offset place.old }
         requires sized { IsSized (program_of self.now.program.now) answers.old }
-        requires filled { IsFilled (flow_in table.now) (heights_in table.now) (program_of self.now.program.now) (Input.view self.now.input) answers.old forward 0 offset }
+        requires filled { IsFilledIn Input.view self.now table.now answers.old forward 0 offset }
         ensures sized { OnOk result (IsSized (program_of self.now.program.now) answers.new) }
-        ensures filled { OnOk result (IsFilled (flow_in table.now) (heights_in table.now) (program_of self.now.program.now) (Input.view self.now.input) answers.new forward
-            (length (heights_in table.now).order) offset) }
+        ensures filled { OnOk result (IsFilledIn Input.view self.now table.now answers.new forward (length (heights_in table.now).order) offset) }
         ensures awaited { OnOk result ((q : ℕ) → q ≤ length (Input.view self.now.input).units → IsBehind (Input.view self.now.input) forward offset q
             → IsAwaited (Input.view self.now.input) (direction_of forward) q place.new) }
         ensures counted { OnOk result (steps.new ≤ steps.old + length (heights_in table.now).order) }
@@ -196,10 +194,9 @@ impl<'a, Input: ExecutorInput> Answering<'a, Input> {
         requires linear { IsLinear (flow_in table.now) (heights_in table.now) (program_of self.now.program.now) }
         requires short { suc (length (Input.view self.now.input).units) < too_long }
         requires sized { IsSized (program_of self.now.program.now) answers.old }
-        requires filled { IsFilled (flow_in table.now) (heights_in table.now) (program_of self.now.program.now) (Input.view self.now.input) answers.old forward 0
-            (offset_of forward (length (Input.view self.now.input).units) 0) }
+        requires filled { IsFilledIn Input.view self.now table.now answers.old forward 0 (offset_of forward (length (Input.view self.now.input).units) 0) }
         ensures sized { OnOk result (IsSized (program_of self.now.program.now) answers.new) }
-        ensures filled { OnOk result (IsFilled (flow_in table.now) (heights_in table.now) (program_of self.now.program.now) (Input.view self.now.input) answers.new forward
+        ensures filled { OnOk result (IsFilledIn Input.view self.now table.now answers.new forward
             (length (heights_in table.now).order) (offset_of forward (length (Input.view self.now.input).units) (length (Input.view self.now.input).units))) }
         ensures counted { OnOk result (steps.new ≤ steps.old + suc (length (Input.view self.now.input).units) * length (heights_in table.now).order) }
     {

@@ -1,9 +1,9 @@
 //! Searches of a linear program in a text by a table of answers.
 ghost use Rattle.std.specs.Prelude.{◌≡◌, ◌-◌, ◌^◌, ◌<◌, ◌+◌, ◌≤◌, suc, IfOk, OnOk, length, map};
 ghost use Rattle.regress_engine_code.specs.Standing.{program_of};
-ghost use Rattle.regress_engine_input.specs.Views.{input_of, reading_of};
+ghost use Rattle.regress_engine_input.specs.Views.{reading_of};
 ghost use Rattle.regress_engine_runs.specs.Meets.{IsAtPlace};
-ghost use Rattle.regress_engine_search.specs.Answering.{IsAnswer, IsFound};
+ghost use Rattle.regress_engine_search.specs.Contexts.{IsAnswerIn, IsFoundIn};
 ghost use Rattle.regress_engine_search.specs.StateViews.{marks_of};
 ghost use Rattle.regress_engine_linear.specs.Linear.{IsLinear, too_long};
 ghost use Rattle.regress_engine_linear.specs.LinearViews.{flow_in, heights_in};
@@ -86,7 +86,7 @@ impl TextTable {
         requires short { suc (length (Input.view context.now.input).units) < too_long }
         requires told { IsTold table.now (program_of context.now.program.now) (Input.view context.now.input) self.now }
         requires place { IsAtPlace (reading_of (Input.view context.now.input)) start }
-        ensures answer { IfOk result (λ found. IsAnswer (program_of context.now.program.now) (input_of (Input.view context.now.input)) start found (map marks_of groups.new.items)) }
+        ensures answer { IfOk result (λ found. IsAnswerIn Input.view context.now start found (map marks_of groups.new.items)) }
         ensures counted { IfOk result (λ found. StepsTo table.now (Input.view context.now.input) steps.old steps.new (from_start start found)) }
     {
         if !self.answers.are_told(0, start) {
@@ -121,7 +121,7 @@ impl TextTable {
         requires short { suc (length (Input.view context.now.input).units) < too_long }
         requires told { IsTold table.now (program_of context.now.program.now) (Input.view context.now.input) self.now }
         requires place { IsAtPlace (reading_of (Input.view context.now.input)) offset }
-        ensures found { IfOk result (λ found. IsFound (program_of context.now.program.now) (input_of (Input.view context.now.input)) offset found (map marks_of groups.new.items)) }
+        ensures found { IfOk result (λ found. IsFoundIn Input.view context.now offset found (map marks_of groups.new.items)) }
         ensures counted { IfOk result (StepsTo table.now (Input.view context.now.input) steps.old steps.new) }
     {
         let mut from = offset;

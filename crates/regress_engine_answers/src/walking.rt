@@ -10,7 +10,7 @@ ghost use Rattle.regress_engine_runs.specs.Runs.{fields_of, one_by_one, room};
 ghost use Rattle.regress_engine_runs.specs.States.{begun, ended, first_state, unset};
 ghost use Rattle.regress_engine_runs.specs.UndoStack.{ReadOn, outermost};
 ghost use Rattle.regress_engine_search.specs.Answering.{IsAnswer};
-ghost use Rattle.regress_engine_search.specs.Ready.{IsBody, IsReady, is_simple};
+ghost use Rattle.regress_engine_search.specs.Ready.{IsBody};
 ghost use Rattle.regress_engine_search.specs.Search.{Suits};
 ghost use Rattle.regress_engine_search.specs.StateViews.{marks_of};
 ghost use Rattle.regress_engine_linear.specs.Answered.{exit_at, first_at, is_single, last_at};
@@ -18,6 +18,7 @@ ghost use Rattle.regress_engine_answers.specs.AnswerTables.{exits_by, told_by};
 ghost use Rattle.regress_engine_answers.specs.Filled.{AreRight};
 ghost use Rattle.regress_engine_linear.specs.Linear.{IsLinear, too_long};
 ghost use Rattle.regress_engine_linear.specs.LinearViews.{flow_in, heights_in};
+ghost use Rattle.regress_engine_answers.specs.Searched.{IsReadyIn};
 ghost use Rattle.regress_engine_answers.specs.Walked.{AreExitsKnown, AreExitsTold, again_at, either_of, first_of, led, marked, station_at, written_by};
 
 use crate::answers::{Answering, Answers};
@@ -334,8 +335,7 @@ impl<'a, Input: ExecutorInput> Answering<'a, Input> {
         offset: usize,
     ) -> Option<Station>
         requires suits { Suits (program_of self.now.program.now) (Input.view self.now.input) }
-        requires ready { is_simple (instruction insn.now) ≡ true → IsReady (program_of self.now.program.now) (Input.view self.now.input) (instruction insn.now)
-            (map marks_of self.now.groups.now) offset }
+        requires ready { IsReadyIn Input.view self.now (instruction insn.now) offset }
         requires room { at + 1 < 2 ^ 64 }
         requires plain { is_single (instruction insn.now) ≡ false }
         ensures { result ≡ led (told_by answers.now) (program_of self.now.program.now) (input_of (Input.view self.now.input)) (direction_of forward)
@@ -396,8 +396,7 @@ impl<'a, Input: ExecutorInput> Answering<'a, Input> {
         requires suits { Suits (program_of self.now.program.now) (Input.view self.now.input) }
         requires groups { length self.now.groups.now ≡ (program_of self.now.program.now).groups }
         requires stands { Stands (program_of self.now.program.now) at (instruction insn.now) }
-        requires ready { is_simple (instruction insn.now) ≡ true → IsReady (program_of self.now.program.now) (Input.view self.now.input) (instruction insn.now)
-            (map marks_of self.now.groups.now) offset }
+        requires ready { IsReadyIn Input.view self.now (instruction insn.now) offset }
         requires place { reads_character (instruction insn.now) ≡ true → IsAtPlace (reading_of (Input.view self.now.input)) offset }
         requires room { at + 1 < 2 ^ 64 }
         requires exits { (i : Instruction) → is_single (instruction insn.now) ≡ true → Stands (program_of self.now.program.now) (at + 1) i

@@ -3,3 +3,4 @@ pub mod Held
 pub mod Tasks
 pub mod Sound
 pub mod Stepping
+pub mod Attempts

@@ -7,6 +7,7 @@ use Rattle.regress_engine_runs.specs.States.{Whole}
 use Rattle.regress_engine_code.specs.Standing.{program_of}
 use Rattle.regress_engine_search.specs.Budgets.{Spends}
 use Rattle.regress_engine_search.specs.Search.{Search}
+use Rattle.regress_engine_search.specs.declared.context.SearchContext.{SearchContext}
 use Rattle.regress_engine_attempt.specs.Counting.{RunsIn, most_counted}
 pub use Rattle.regress_engine_attempt.specs.Counting.{CountsRun}
 
@@ -27,6 +28,14 @@ module _ (program : Program) (v : View) where
   -- A search from one offset has come to another, and no more steps were counted on the way than its runs there take.
   abbrev pub CountsUpTo : (at from : ℕ) → Option ℕ → Option ℕ → Type 0
   CountsUpTo at from before now = (k m n : ℕ) × (k + m ≤ n) × Spends before now (most_counted v k) × Takes from m × Takes at n
+
+-- the same in the text of a search context, by what is shown of its input
+abbrev pub CountsSearchIn : {I : Type 0} {g : _} → (I → View) → SearchContext I g → (at : ℕ) → (before after : Option ℕ) → Type 0
+CountsSearchIn view c at before after = CountsSearch (program_of c.program.now) (view c.input) at before after
+
+-- and of the run from one offset
+abbrev pub CountsRunIn : {I : Type 0} {g : _} → (I → View) → SearchContext I g → (at : ℕ) → (before after : Option ℕ) → Type 0
+CountsRunIn view c at before after = CountsRun (program_of c.program.now) (view c.input) at before after
 
 -- From so many steps that may be counted to so many, no more were counted than a search from an offset takes; and none are left where
 -- it errs since there would be too many. Nothing is said where it errs otherwise.

@@ -1,5 +1,6 @@
 -- What an executor searches, and what it holds.
-use Rattle.std.specs.Prelude.{ℕ, Bool, List, Option, None, Some, map, is_some, option_map}
+use Rattle.std.specs.Prelude.{◌≡◌, ℕ, Bool, List, Option, None, Some, map, is_some, option_map}
+use Rattle.regress_engine_input.specs.Views.{View}
 use Rattle.regress_engine_insn.specs.Instructions.{Program}
 use Rattle.regress_engine_code.specs.Standing.{program_of}
 use Rattle.regress_engine_runs.specs.States.{Marks}
@@ -7,6 +8,7 @@ use Rattle.regress_engine_search.specs.Search.{Search}
 use Rattle.regress_engine_search.specs.StateViews.{marks_of}
 use Rattle.regress_engine_search.specs.declared.budget.StepsLeft.{StepsLeft}
 use Rattle.regress_engine_linear.specs.declared.testing.LinearTable.{LinearTable}
+use Rattle.regress_engine_exec.specs.Counting.{CountsRunIn, CountsSearchIn}
 use Rattle.regress_engine_exec.specs.Turned.{told_steps}
 use Rattle.regress_engine_exec.specs.declared.scratch.Scratch.{Scratch}
 use Rattle.regress_engine_exec.specs.declared.search.Backtracker.{Backtracker}
@@ -50,3 +52,19 @@ tabled_in {g = g} e = elim e.turning [ None ↦ 0 | Some t ↦ told_steps (g.sho
 -- how many of these were taken
 abbrev pub table_steps_of : {I B : Type 0} {g : _} → Backtracker I B g → ℕ
 table_steps_of e = elim e.turning [ None ↦ 0 | Some t ↦ t.steps ]
+
+-- a search from an offset on took no more steps than its runs take, counted against the budget, if that has a bound
+abbrev pub SearchCounts : {I B : Type 0} {g : _} → (I → View) → (left : B → Option ℕ) → (at : ℕ) → (old new : Backtracker I B g) → Type 0
+SearchCounts view left at old new = CountsSearchIn view old.context at (left (budget_of old)) (left (budget_of new))
+
+-- and no more may be counted
+abbrev pub SearchStops : {I B : Type 0} {g : _} → (I → View) → (left : B → Option ℕ) → (at : ℕ) → (old new : Backtracker I B g) → Type 0
+SearchStops view left at old new = (left (budget_of new) ≡ Some 0) × SearchCounts view left at old new
+
+-- the run from one offset took no more than it takes
+abbrev pub RunCounts : {I B : Type 0} {g : _} → (I → View) → (left : B → Option ℕ) → (at : ℕ) → (old new : Backtracker I B g) → Type 0
+RunCounts view left at old new = CountsRunIn view old.context at (left (budget_of old)) (left (budget_of new))
+
+-- and no more may be counted
+abbrev pub RunStops : {I B : Type 0} {g : _} → (I → View) → (left : B → Option ℕ) → (at : ℕ) → (old new : Backtracker I B g) → Type 0
+RunStops view left at old new = (left (budget_of new) ≡ Some 0) × RunCounts view left at old new

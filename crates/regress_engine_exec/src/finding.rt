@@ -1,15 +1,14 @@
 //! The first place of a text from which a run has an answer.
 ghost use Rattle.std.specs.Prelude.{◌≡◌, Some, IfOk};
 ghost use Rattle.regress_engine_code.specs.Standing.{program_of};
-ghost use Rattle.regress_engine_input.specs.Views.{input_of, reading_of};
+ghost use Rattle.regress_engine_input.specs.Views.{reading_of};
 ghost use Rattle.regress_engine_runs.specs.Meets.{IsAtPlace};
-ghost use Rattle.regress_engine_search.specs.Answering.{IsAnswer, IsFound};
+ghost use Rattle.regress_engine_search.specs.Contexts.{IsAnswerIn, IsFoundIn};
 ghost use Rattle.regress_engine_search.specs.Ending.{IfEnded, IfStopped};
 ghost use Rattle.regress_engine_search.specs.Skipping.{IsNextStart};
 ghost use Rattle.regress_engine_leading.specs.Known.{IsKnown};
 ghost use Rattle.regress_engine_attempt.specs.Attempts.{Remembers, searched};
-ghost use Rattle.regress_engine_attempt.specs.Counting.{CountsRun};
-ghost use Rattle.regress_engine_exec.specs.Counting.{CountsSearch};
+ghost use Rattle.regress_engine_exec.specs.Counting.{CountsRunIn, CountsSearchIn};
 ghost use Rattle.regress_engine_exec.specs.Searches.{groups_of};
 
 use crate::scratch::Scratch;
@@ -67,8 +66,8 @@ pub(crate) fn first_from<Input: ExecutorInput, B: Budget>(
 ) -> Result<Ended<(usize, usize)>, AllocError>
     requires place { IsAtPlace (reading_of (Input.view context.now.input)) offset }
     requires so { Remembers (searched Input.view context.now) remembered.old }
-    ensures found { IfOk result (λ ended. IfEnded ended (λ found. IsFound (program_of context.now.program.now) (input_of (Input.view context.now.input)) offset found (groups_of scratch.new))) }
-    ensures counted { IfOk result (λ ended. CountsSearch (program_of context.now.program.now) (Input.view context.now.input) offset (B.left budget.old) (B.left budget.new)) }
+    ensures found { IfOk result (λ ended. IfEnded ended (λ found. IsFoundIn Input.view context.now offset found (groups_of scratch.new))) }
+    ensures counted { IfOk result (λ ended. CountsSearchIn Input.view context.now offset (B.left budget.old) (B.left budget.new)) }
     ensures stopped { IfOk result (λ ended. IfStopped ended (B.left budget.new ≡ Some 0)) }
     ensures so { Remembers (searched Input.view context.now) remembered.new }
 {
@@ -120,8 +119,8 @@ pub(crate) fn run_from<Input: ExecutorInput, B: Budget>(
 ) -> Result<Ended<usize>, AllocError>
     requires place { IsAtPlace (reading_of (Input.view context.now.input)) offset }
     requires so { Remembers (searched Input.view context.now) remembered.old }
-    ensures answer { IfOk result (λ ended. IfEnded ended (λ end. IsAnswer (program_of context.now.program.now) (input_of (Input.view context.now.input)) offset end (groups_of scratch.new))) }
-    ensures counted { IfOk result (λ ended. CountsRun (program_of context.now.program.now) (Input.view context.now.input) offset (B.left budget.old) (B.left budget.new)) }
+    ensures answer { IfOk result (λ ended. IfEnded ended (λ end. IsAnswerIn Input.view context.now offset end (groups_of scratch.new))) }
+    ensures counted { IfOk result (λ ended. CountsRunIn Input.view context.now offset (B.left budget.old) (B.left budget.new)) }
     ensures stopped { IfOk result (λ ended. IfStopped ended (B.left budget.new ≡ Some 0)) }
     ensures so { Remembers (searched Input.view context.now) remembered.new }
 {

@@ -9,7 +9,8 @@ ghost use Rattle.regress_front_tables.specs.TableViews.{table};
 ghost use Rattle.regress_engine_input.specs.Views.{input_of, reading_of, utf8};
 ghost use Rattle.regress_engine_runs.specs.Items.{Finds};
 ghost use Rattle.regress_engine_runs.specs.Meets.{IsAtPlace};
-ghost use Rattle.regress_engine_search.specs.Answering.{IsAnswer, IsFound, IsOutcome};
+ghost use Rattle.regress_engine_search.specs.Answering.{IsOutcome};
+ghost use Rattle.regress_engine_search.specs.Contexts.{IsAnswerIn, IsFoundIn};
 ghost use Rattle.regress_engine_search.specs.Search.{IsMadeOf, IsItemAtPlaces, IsWritten};
 ghost use Rattle.regress_engine_attempt.specs.Attempts.{Remembers, world_of};
 ghost use Rattle.regress_engine_attempt.specs.Counting.{CountsRun};
@@ -117,7 +118,7 @@ impl<'r, Input: ExecutorInput> BoundedExecutor<'r, Input> {
 }
 
 impl<'r, Input: ExecutorInput, B: SearchBudget> Backtracker<'r, Input, B> {
-    ghost use Rattle.regress_engine_exec.specs.Searches.{budget_of, groups_in, program_in, search_in, table_in, table_steps_of, tabled_in, turns_in};
+    ghost use Rattle.regress_engine_exec.specs.Searches.{RunCounts, RunStops, SearchCounts, SearchStops, budget_of, groups_in, program_in, search_in, table_in, table_steps_of, tabled_in, turns_in};
 
     /// The executor of a program over a text, with room that other searches have left, and a budget for all its searches. If it is given the
     /// table of its program and the budget has enough steps (`linear_steps`), the budget is lowered to these, and where no more may be counted
@@ -234,7 +235,7 @@ impl<'r, Input: ExecutorInput, B: SearchBudget> Backtracker<'r, Input, B> {
         offset: usize,
     ) -> Result<Option<Option<(usize, usize)>>, AllocError>
         requires { IsAtPlace (reading_of (Input.view self.old.context.input)) offset }
-        ensures found { IfOk result (λ ended. IfSome ended (λ found. IsFound (program_in self.old) (input_of (Input.view self.old.context.input)) offset found (groups_in self.new))) }
+        ensures found { IfOk result (λ ended. IfSome ended (λ found. IsFoundIn Input.view self.old.context offset found (groups_in self.new))) }
         ensures budget { budget_of self.new ≡ budget_of self.old }
         ensures kept { self.new.context ≡ self.old.context }
         ensures turns { turns_in self.new ≡ turns_in self.old }
@@ -262,7 +263,7 @@ impl<'r, Input: ExecutorInput, B: SearchBudget> Backtracker<'r, Input, B> {
         offset: usize,
     ) -> Result<Option<Option<(usize, usize)>>, AllocError>
         requires { IsAtPlace (reading_of (Input.view self.old.context.input)) offset }
-        ensures found { IfOk result (λ ended. IfSome ended (λ found. IsFound (program_in self.old) (input_of (Input.view self.old.context.input)) offset found (groups_in self.new))) }
+        ensures found { IfOk result (λ ended. IfSome ended (λ found. IsFoundIn Input.view self.old.context offset found (groups_in self.new))) }
         ensures budget { budget_of self.new ≡ budget_of self.old }
         ensures kept { self.new.context ≡ self.old.context }
         ensures turns { turns_in self.new ≡ turns_in self.old }
@@ -278,7 +279,7 @@ impl<'r, Input: ExecutorInput, B: SearchBudget> Backtracker<'r, Input, B> {
     /// Runs the program from an offset, as long as there is patience; else, and where there is none any more, nothing is answered.
     fn run_in_time(&mut self, offset: usize) -> Result<Option<Option<usize>>, AllocError>
         requires { IsAtPlace (reading_of (Input.view self.old.context.input)) offset }
-        ensures answer { IfOk result (λ ended. IfSome ended (λ end. IsAnswer (program_in self.old) (input_of (Input.view self.old.context.input)) offset end (groups_in self.new))) }
+        ensures answer { IfOk result (λ ended. IfSome ended (λ end. IsAnswerIn Input.view self.old.context offset end (groups_in self.new))) }
         ensures budget { budget_of self.new ≡ budget_of self.old }
         ensures kept { self.new.context ≡ self.old.context }
         ensures turns { turns_in self.new ≡ turns_in self.old }
@@ -306,7 +307,7 @@ impl<'r, Input: ExecutorInput, B: SearchBudget> Backtracker<'r, Input, B> {
     #[inline(always)]
     fn search_by_tables(&mut self, offset: usize) -> Option<Option<(usize, usize)>>
         requires { IsAtPlace (reading_of (Input.view self.old.context.input)) offset }
-        ensures found { IfSome result (λ found. IsFound (program_in self.old) (input_of (Input.view self.old.context.input)) offset found (groups_in self.new)) }
+        ensures found { IfSome result (λ found. IsFoundIn Input.view self.old.context offset found (groups_in self.new)) }
         ensures budget { budget_of self.new ≡ budget_of self.old }
         ensures kept { self.new.context ≡ self.old.context }
         ensures turns { turns_in self.new ≡ turns_in self.old }
@@ -327,7 +328,7 @@ impl<'r, Input: ExecutorInput, B: SearchBudget> Backtracker<'r, Input, B> {
     /// Runs the program from an offset by its tables, if it has some; else, and where memory is refused, nothing is answered.
     fn run_by_tables(&mut self, offset: usize) -> Option<Option<usize>>
         requires { IsAtPlace (reading_of (Input.view self.old.context.input)) offset }
-        ensures answer { IfSome result (λ end. IsAnswer (program_in self.old) (input_of (Input.view self.old.context.input)) offset end (groups_in self.new)) }
+        ensures answer { IfSome result (λ end. IsAnswerIn Input.view self.old.context offset end (groups_in self.new)) }
         ensures budget { budget_of self.new ≡ budget_of self.old }
         ensures kept { self.new.context ≡ self.old.context }
         ensures turns { turns_in self.new ≡ turns_in self.old }
@@ -350,7 +351,7 @@ impl<'r, Input: ExecutorInput, B: SearchBudget> Backtracker<'r, Input, B> {
     fn search_told(&mut self, offset: usize) -> Result<Option<(usize, usize)>, B::Error>
         requires place { IsAtPlace (reading_of (Input.view self.old.context.input)) offset }
         requires over { turns_in self.old ≡ false → B.left (budget_of self.old) ≡ Some 0 }
-        ensures found { IfOk result (λ found. IsFound (program_in self.old) (input_of (Input.view self.old.context.input)) offset found (groups_in self.new)) }
+        ensures found { IfOk result (λ found. IsFoundIn Input.view self.old.context offset found (groups_in self.new)) }
         ensures never { IfErr result (NeverOver B.is_over (turns_in self.old)) }
         ensures budget { budget_of self.new ≡ budget_of self.old }
         ensures kept { self.new.context ≡ self.old.context }
@@ -374,7 +375,7 @@ impl<'r, Input: ExecutorInput, B: SearchBudget> Backtracker<'r, Input, B> {
     fn run_told(&mut self, offset: usize) -> Result<Option<usize>, B::Error>
         requires place { IsAtPlace (reading_of (Input.view self.old.context.input)) offset }
         requires over { turns_in self.old ≡ false → B.left (budget_of self.old) ≡ Some 0 }
-        ensures answer { IfOk result (λ end. IsAnswer (program_in self.old) (input_of (Input.view self.old.context.input)) offset end (groups_in self.new)) }
+        ensures answer { IfOk result (λ end. IsAnswerIn Input.view self.old.context offset end (groups_in self.new)) }
         ensures never { IfErr result (NeverOver B.is_over (turns_in self.old)) }
         ensures budget { budget_of self.new ≡ budget_of self.old }
         ensures kept { self.new.context ≡ self.old.context }
@@ -396,9 +397,9 @@ impl<'r, Input: ExecutorInput, B: SearchBudget> Backtracker<'r, Input, B> {
     /// groups are then held.
     fn search(&mut self, offset: usize) -> Result<Option<(usize, usize)>, B::Error>
         requires { IsAtPlace (reading_of (Input.view self.old.context.input)) offset }
-        ensures found { IfOk result (λ found. IsFound (program_in self.old) (input_of (Input.view self.old.context.input)) offset found (groups_in self.new)) }
-        ensures counted { IfOk result (λ _. CountsSearch (program_in self.old) (Input.view self.old.context.input) offset (B.left (budget_of self.old)) (B.left (budget_of self.new))) }
-        ensures stopped { IfErr result (λ e. B.is_over e → (B.left (budget_of self.new) ≡ Some 0) × CountsSearch (program_in self.old) (Input.view self.old.context.input) offset (B.left (budget_of self.old)) (B.left (budget_of self.new))) }
+        ensures found { IfOk result (λ found. IsFoundIn Input.view self.old.context offset found (groups_in self.new)) }
+        ensures counted { IfOk result (λ _. SearchCounts Input.view B.left offset self.old self.new) }
+        ensures stopped { IfErr result (λ e. B.is_over e → SearchStops Input.view B.left offset self.old self.new) }
         ensures never { IfErr result (NeverOver B.is_over (turns_in self.old)) }
         ensures kept { self.new.context ≡ self.old.context }
         ensures turns { turns_in self.new ≡ turns_in self.old }
@@ -430,9 +431,9 @@ impl<'r, Input: ExecutorInput, B: SearchBudget> Backtracker<'r, Input, B> {
     /// Runs the program from an offset. It answers where the run's answer ends, whose groups are then held.
     fn run_at(&mut self, offset: usize) -> Result<Option<usize>, B::Error>
         requires { IsAtPlace (reading_of (Input.view self.old.context.input)) offset }
-        ensures answer { IfOk result (λ end. IsAnswer (program_in self.old) (input_of (Input.view self.old.context.input)) offset end (groups_in self.new)) }
-        ensures counted { IfOk result (λ _. CountsRun (program_in self.old) (Input.view self.old.context.input) offset (B.left (budget_of self.old)) (B.left (budget_of self.new))) }
-        ensures stopped { IfErr result (λ e. B.is_over e → (B.left (budget_of self.new) ≡ Some 0) × CountsRun (program_in self.old) (Input.view self.old.context.input) offset (B.left (budget_of self.old)) (B.left (budget_of self.new))) }
+        ensures answer { IfOk result (λ end. IsAnswerIn Input.view self.old.context offset end (groups_in self.new)) }
+        ensures counted { IfOk result (λ _. RunCounts Input.view B.left offset self.old self.new) }
+        ensures stopped { IfErr result (λ e. B.is_over e → RunStops Input.view B.left offset self.old self.new) }
         ensures never { IfErr result (NeverOver B.is_over (turns_in self.old)) }
         ensures kept { self.new.context ≡ self.old.context }
         ensures turns { turns_in self.new ≡ turns_in self.old }

@@ -1,9 +1,9 @@
 //! The tables by which a search without a bound goes on after very many steps.
 ghost use Rattle.std.specs.Prelude.{◌≡◌, Some, IfOk, IfSome, map};
 ghost use Rattle.regress_engine_code.specs.Standing.{program_of};
-ghost use Rattle.regress_engine_input.specs.Views.{input_of, reading_of};
+ghost use Rattle.regress_engine_input.specs.Views.{reading_of};
 ghost use Rattle.regress_engine_runs.specs.Meets.{IsAtPlace};
-ghost use Rattle.regress_engine_search.specs.Answering.{IsAnswer, IsFound};
+ghost use Rattle.regress_engine_search.specs.Contexts.{IsAnswerIn, IsFoundIn};
 ghost use Rattle.regress_engine_search.specs.StateViews.{marks_of};
 ghost use Rattle.regress_engine_exec.specs.Turned.{GoesOnBy};
 
@@ -55,7 +55,7 @@ impl Tables {
     ) -> Result<Option<(usize, usize)>, AllocError>
         requires tables { GoesOnBy (program_of context.now.program.now) (Input.view context.now.input) self.now }
         requires place { IsAtPlace (reading_of (Input.view context.now.input)) offset }
-        ensures found { IfOk result (λ found. IsFound (program_of context.now.program.now) (input_of (Input.view context.now.input)) offset found (map marks_of groups.new.items)) }
+        ensures found { IfOk result (λ found. IsFoundIn Input.view context.now offset found (map marks_of groups.new.items)) }
     {
         let mut steps = 0;
         self.told
@@ -71,7 +71,7 @@ impl Tables {
     ) -> Result<Option<usize>, AllocError>
         requires tables { GoesOnBy (program_of context.now.program.now) (Input.view context.now.input) self.now }
         requires place { IsAtPlace (reading_of (Input.view context.now.input)) offset }
-        ensures answer { IfOk result (λ end. IsAnswer (program_of context.now.program.now) (input_of (Input.view context.now.input)) offset end (map marks_of groups.new.items)) }
+        ensures answer { IfOk result (λ end. IsAnswerIn Input.view context.now offset end (map marks_of groups.new.items)) }
     {
         let mut steps = 0;
         self.told

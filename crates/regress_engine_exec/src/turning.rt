@@ -1,9 +1,9 @@
 //! What searches turn to where no more steps may be counted.
 ghost use Rattle.std.specs.Prelude.{◌≡◌, ◌≤◌, true, false, Some, None, IfOk, OnOk, IfSome, is_some, map, option_copied};
 ghost use Rattle.regress_engine_code.specs.Standing.{program_of};
-ghost use Rattle.regress_engine_input.specs.Views.{input_of, reading_of};
+ghost use Rattle.regress_engine_input.specs.Views.{reading_of};
 ghost use Rattle.regress_engine_runs.specs.Meets.{IsAtPlace};
-ghost use Rattle.regress_engine_search.specs.Answering.{IsAnswer, IsFound};
+ghost use Rattle.regress_engine_search.specs.Contexts.{IsAnswerIn, IsFoundIn};
 ghost use Rattle.regress_engine_search.specs.StateViews.{marks_of};
 ghost use Rattle.regress_engine_answers.specs.Searched.{from_start};
 ghost use Rattle.regress_engine_exec.specs.Turned.{CountsTold, Turns, enough_by, fits_told, linear_steps, may_turn, told_steps};
@@ -108,7 +108,7 @@ impl<'r> Turning<'r> {
     ) -> Result<Option<(usize, usize)>, AllocError>
         requires turns { Turns (program_of context.now.program.now) (Input.view context.now.input) self.old }
         requires place { IsAtPlace (reading_of (Input.view context.now.input)) offset }
-        ensures found { IfOk result (λ found. IsFound (program_of context.now.program.now) (input_of (Input.view context.now.input)) offset found (map marks_of groups.new.items)) }
+        ensures found { IfOk result (λ found. IsFoundIn Input.view context.now offset found (map marks_of groups.new.items)) }
         ensures turns { Turns (program_of context.now.program.now) (Input.view context.now.input) self.new }
         ensures table { self.new.table.now ≡ self.old.table.now }
         ensures counted { IfOk result (CountsTold (Input.view context.now.input) self.old self.new) }
@@ -131,7 +131,7 @@ impl<'r> Turning<'r> {
     ) -> Result<Option<usize>, AllocError>
         requires turns { Turns (program_of context.now.program.now) (Input.view context.now.input) self.old }
         requires place { IsAtPlace (reading_of (Input.view context.now.input)) offset }
-        ensures answer { IfOk result (λ end. IsAnswer (program_of context.now.program.now) (input_of (Input.view context.now.input)) offset end (map marks_of groups.new.items)) }
+        ensures answer { IfOk result (λ end. IsAnswerIn Input.view context.now offset end (map marks_of groups.new.items)) }
         ensures turns { Turns (program_of context.now.program.now) (Input.view context.now.input) self.new }
         ensures table { self.new.table.now ≡ self.old.table.now }
         ensures counted { IfOk result (λ end. CountsTold (Input.view context.now.input) self.old self.new (from_start offset end)) }

@@ -6,6 +6,7 @@ pub mod Answering
 pub mod Prefiltering
 pub mod Search
 pub mod Skipping
+pub mod Contexts
 pub mod SearchProps
 pub mod Searching
 pub mod Budgets
