@@ -3,12 +3,12 @@ ghost use Rattle.std.specs.Prelude.{◌≡◌, ◌⊎◌, ◌≤◌, ◌<◌, �
 ghost use Rattle.regress_engine_insn.specs.InsnViews.{instruction};
 ghost use Rattle.regress_engine_insn.specs.Instructions.{byte_seq};
 ghost use Rattle.regress_engine_code.specs.Standing.{program_of};
-ghost use Rattle.regress_engine_input.specs.Views.{input_of, reading_of};
+ghost use Rattle.regress_engine_input.specs.Views.{direction_of, input_of, reading_of};
 ghost use Rattle.regress_engine_runs.specs.Meets.{IsAtPlace};
+ghost use Rattle.regress_engine_runs.specs.Runs.{gap};
 ghost use Rattle.regress_engine_runs.specs.UndoStack.{give_back, take_on};
 ghost use Rattle.regress_engine_search.specs.Ready.{IsBody, IsReady};
 ghost use Rattle.regress_engine_search.specs.StateViews.{marks_of};
-ghost use Rattle.regress_engine_search.specs.Submatches.{submatch_of, is_negated};
 ghost use Rattle.regress_engine_undo.specs.Held.{held, undo_of, pushed};
 ghost use Rattle.regress_engine_search.specs.Search.{Suits};
 ghost use Rattle.regress_engine_undo.specs.Dead.{GivesFrom, TakesFrom};
@@ -21,34 +21,43 @@ use crate::attempt::Attempt;
 use crate::counts::Counts;
 use crate::remembered::Remembered;
 use regress_engine_advance::{
-    advance, any_in_line, as_far, ascii_bracket, beside, other_ahead, taken_first,
+    advance, any_in_line, as_far, ascii_bracket, beside, is_dead, other_ahead, taken_first,
 };
 use regress_engine_insn::Insn;
 use regress_engine_search::ExecutorInput;
 use regress_engine_singles::{first_byte, taken_before};
-use regress_engine_trying::Exit;
-use regress_engine_undo::{Frame, Memory, Spot, Undo, is_ahead};
+use regress_engine_trying::{Exit, exhaust};
+use regress_engine_undo::{Memory, Spot, Undo, is_ahead};
 use regress_front_core::GroupData;
 use std::alloc::AllocError;
 
-/// Goes on behind a lookaround or an atomic group whose contents have no answer, where it is negated, and answers whether it is.
-#[inline]
-fn exhaust(frame: &Frame, spot: &mut Spot) -> bool
-    ensures direction { spot.new.forward ≡ frame.now.spot.forward }
-    ensures way { result ≡ is_negated (submatch_of frame.now.kind) }
-    ensures spot { is_negated (submatch_of frame.now.kind) ≡ true → spot.new ≡ record frame.now.spot { at = frame.now.continuation } }
-{
-    spot.forward = frame.spot.forward;
-    let is_negated = frame.kind.is_negated();
-    if is_negated {
-        spot.at = frame.continuation;
-        spot.offset = frame.spot.offset;
-    }
-    is_negated
-}
-
 impl<'a, Input: ExecutorInput> Attempt<'a, Input> {
-    /// The first offset, from a far one back to a near one, where what is taken first at an address stands; `None` where it stands at none.
+    /// The first offset, from a far one back to a near one, from which a match may be reached from an address on, as far as the byte ahead
+    /// tells; `None` where there is none.
+    #[inline(always)]
+    fn far_lead(&self, at: usize, near: usize, far: usize, forward: bool) -> Option<usize>
+        requires suits { Suits (program_of self.now.program.now) (Input.view self.now.input) }
+        requires place { IsAtPlace (reading_of (Input.view self.now.input)) far }
+        ensures leads { GivesFrom (program_of self.now.program.now) (input_of (Input.view self.now.input)) forward at near far result }
+        ensures nearer { IfSome result (λ way. gap (direction_of forward) near way ≤ gap (direction_of forward) near far) }
+        ensures place { IfSome result (IsAtPlace (reading_of (Input.view self.now.input))) }
+    {
+        let mut back = far;
+        'places: loop {
+            if !is_dead(self.program, &self.input, at, forward, back) {
+                return Some(back);
+            }
+            if !is_ahead(forward, near, back) {
+                return None;
+            }
+            let Some((_, before)) = beside(&self.input, !forward, back) else {
+                return None;
+            };
+            back = before;
+        }
+    }
+
+    /// The same, where what is taken first at the address is known: it has to stand there too.
     fn far_way(
         &self,
         at: usize,
@@ -64,17 +73,18 @@ impl<'a, Input: ExecutorInput> Attempt<'a, Input> {
         ensures place { IfSome result (IsAtPlace (reading_of (Input.view self.now.input))) }
     {
         let Some(insn) = taken_first(self.program, at) else {
-            return Some(far);
+            return self.far_lead(at, near, far, forward);
         };
         let mut back = far;
         'places: loop {
-            if advance(self.program, &self.input, insn, forward, groups, back).is_some() {
-                return Some(back);
+            let way = self.far_lead(at, near, back, forward)?;
+            if advance(self.program, &self.input, insn, forward, groups, way).is_some() {
+                return Some(way);
             }
-            if !is_ahead(forward, near, back) {
+            if !is_ahead(forward, near, way) {
                 return None;
             }
-            let Some((_, before)) = beside(&self.input, !forward, back) else {
+            let Some((_, before)) = beside(&self.input, !forward, way) else {
                 return None;
             };
             back = before;

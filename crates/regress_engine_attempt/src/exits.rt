@@ -3,12 +3,11 @@ ghost use Rattle.std.specs.Prelude.{◌≡◌, ◌⊎◌, ◌+◌, ◌-◌, ◌<
 ghost use Rattle.regress_engine_insn.specs.InsnViews.{instruction};
 ghost use Rattle.regress_engine_insn.specs.Instructions.{Stands, single_loop};
 ghost use Rattle.regress_engine_code.specs.Standing.{program_of};
-ghost use Rattle.regress_engine_input.specs.Views.{direction_of, input_of, reading_of};
+ghost use Rattle.regress_engine_input.specs.Views.{input_of, reading_of};
 ghost use Rattle.regress_engine_runs.specs.Meets.{IsAtPlace};
 ghost use Rattle.regress_engine_runs.specs.UndoStack.{give_back, take_on};
 ghost use Rattle.regress_engine_search.specs.Ready.{IsBody};
 ghost use Rattle.regress_engine_search.specs.Search.{Suits};
-ghost use Rattle.regress_engine_singles.specs.Failing.{IsDead};
 ghost use Rattle.regress_engine_undo.specs.Held.{held, pushed};
 ghost use Rattle.regress_engine_memory.specs.Held.{FailsWith};
 ghost use Rattle.regress_engine_memory.specs.Remembered.{keyed_of};
@@ -20,7 +19,7 @@ ghost use Rattle.regress_engine_trying.specs.Trying.{Does, IsHeldIn, Undoes};
 
 use crate::attempt::Attempt;
 use crate::counts::Counts;
-use regress_engine_advance::{after_times, beside, taken_first};
+use regress_engine_advance::{after_times, beside, is_dead, taken_first};
 use regress_engine_insn::Insn;
 use regress_engine_memory::Failures;
 use regress_engine_search::ExecutorInput;
@@ -44,21 +43,7 @@ impl<'a, Input: ExecutorInput> Attempt<'a, Input> {
         None
     }
 
-    /// Whether what is taken first at an exit of a one-character loop stands there, as far as that is told.
-    fn exit_stands(&self, exit: &Spot, memory: &Memory) -> bool
-        requires suits { Suits (program_of self.now.program.now) (Input.view self.now.input) }
-        requires sound { IsHeldIn (world Input.view self.now) (held memory.now) }
-        requires place { IsAtPlace (reading_of (Input.view self.now.input)) exit.now.offset }
-        ensures { result ≡ false → IsDead (program_of self.now.program.now) (input_of (Input.view self.now.input)) (direction_of exit.now.forward) exit.now.at exit.now.offset }
-    {
-        let Some(insn) = taken_first(self.program, exit.at) else {
-            return true;
-        };
-        self.once(insn, exit.forward, &memory.groups, exit.offset)
-            .is_some()
-    }
-
-    /// Whether an exit of a one-character loop surely fails: what is taken first there doesn't stand, or it is known.
+    /// Whether an exit of a one-character loop surely fails: what stands there tells it, or it is known.
     fn exit_fails(&self, exit: &Spot, memory: &Memory, failures: &Failures) -> bool
         requires suits { Suits (program_of self.now.program.now) (Input.view self.now.input) }
         requires sound { IsHeldIn (world Input.view self.now) (held memory.now) }
@@ -66,7 +51,12 @@ impl<'a, Input: ExecutorInput> Attempt<'a, Input> {
         requires place { IsAtPlace (reading_of (Input.view self.now.input)) exit.now.offset }
         ensures { result ≡ true → FailsWith (program_of self.now.program.now) (input_of (Input.view self.now.input)) (keyed_of (table_of failures.now.table)) exit.now (held memory.now).loops }
     {
-        if !self.exit_stands(exit, memory) {
+        let (at, forward, offset) = (exit.at, exit.forward, exit.offset);
+        let stands = match taken_first(self.program, at) {
+            Some(insn) => self.once(insn, forward, &memory.groups, offset).is_some(),
+            None => !is_dead(self.program, &self.input, at, forward, offset),
+        };
+        if !stands {
             return true;
         }
         failures.is_known(exit, memory.loops())

@@ -2,6 +2,8 @@
 //! counted. The definitions stand in `specs/`, their lemmas in `proofs/`.
 #![tactic(auto)]
 
+mod exhausted;
 mod exit;
 
+pub use exhausted::exhaust;
 pub use exit::Exit;
