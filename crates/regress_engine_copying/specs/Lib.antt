@@ -3,4 +3,3 @@ pub mod Held
 pub mod Tasks
 pub mod Sound
 pub mod Stepping
-pub mod Attempts

@@ -4,13 +4,13 @@ ghost use Rattle.regress_meaning.specs.Meaning.{Forward as forward};
 ghost use Rattle.regress_engine_insn.specs.Instructions.{Instruction, Stands};
 ghost use Rattle.regress_engine_insn.specs.InsnViews.{instruction};
 ghost use Rattle.regress_engine_code.specs.Standing.{program_of};
-ghost use Rattle.regress_engine_input.specs.Views.{input_of};
+ghost use Rattle.regress_engine_input.specs.Views.{input_of, reading_of};
 ghost use Rattle.regress_engine_runs.specs.States.{first_state};
 ghost use Rattle.regress_engine_runs.specs.Computed.{IsComputed};
+ghost use Rattle.regress_engine_runs.specs.UndoStack.{ReadOn, outermost};
 ghost use Rattle.regress_engine_runs.proofs.OneAnswer.{IsComputed-prop};
 ghost use Rattle.regress_engine_search.specs.Answering.{IsAnswer};
 ghost use Rattle.regress_engine_search.specs.Search.{Suits};
-ghost use Rattle.regress_engine_copying.specs.Attempts.{ReadsOn, program_in, text_in};
 ghost use Rattle.regress_engine_copying.specs.StateOf.{groups_of};
 
 use crate::stack::Stack;
@@ -49,8 +49,8 @@ impl<'a, Input: CharInput> Attempt<'a, Input> {
         ends: &mut Vec<usize>,
     ) -> Result<Option<State>, AllocError>
         requires suits { Suits (program_of self.now.program.now) (Input.view self.now.input) }
-        requires reads { ReadsOn Input.view self.now }
-        ensures { IfOk result (λ found. IsAnswer (program_in self.now) (text_in Input.view self.now) self.now.start (option_map (λ s. s.offset) found) (groups_of found)) }
+        requires reads { ReadOn (program_of self.now.program.now) (input_of (Input.view self.now.input)) (reading_of (Input.view self.now.input)) forward (first_state (program_of self.now.program.now) self.now.start ∷ []) (outermost []) }
+        ensures { IfOk result (λ found. IsAnswer (program_of self.now.program.now) (input_of (Input.view self.now.input)) self.now.start (option_map (λ s. s.offset) found) (groups_of found)) }
     {
         let loops = self.program.loops() as usize;
         let groups = self.program.groups() as usize;

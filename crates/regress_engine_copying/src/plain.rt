@@ -3,11 +3,12 @@ ghost use Rattle.std.specs.Prelude.{◌≡◌, ◌+◌, ◌^◌, ◌<◌, true, 
 ghost use Rattle.regress_engine_insn.specs.Instructions.{Stands, loop_again};
 ghost use Rattle.regress_engine_insn.specs.InsnViews.{fields, instruction};
 ghost use Rattle.regress_engine_code.specs.Standing.{program_of};
+ghost use Rattle.regress_engine_input.specs.Views.{direction_of, input_of, reading_of};
 ghost use Rattle.regress_engine_runs.specs.States.{onward};
-ghost use Rattle.regress_engine_runs.specs.Runs.{choices, is_idle, is_plain};
+ghost use Rattle.regress_engine_runs.specs.Runs.{choices, is_idle, is_plain, successors};
+ghost use Rattle.regress_engine_runs.specs.Meets.{reads_character, ReadsPlaces};
 ghost use Rattle.regress_engine_search.specs.Ready.{is_simple};
 ghost use Rattle.regress_engine_search.specs.Search.{Suits};
-ghost use Rattle.regress_engine_copying.specs.Attempts.{ReadsIn, led};
 ghost use Rattle.regress_engine_copying.specs.StateOf.{state_of};
 ghost use Rattle.regress_engine_copying.specs.Held.{held, put};
 ghost use Rattle.regress_engine_copying.specs.Sound.{IsWhole};
@@ -108,8 +109,8 @@ impl<'a, Input: CharInput> Attempt<'a, Input> {
         requires simple { is_simple (instruction insn.now) ≡ true }
         requires stands { Stands (program_of self.now.program.now) state.at (instruction insn.now) }
         requires room { state.at + 1 < 2 ^ 64 }
-        requires reads { ReadsIn Input.view self.now (instruction insn.now) (state_of state) }
-        ensures { OnOk result (held stack.new ≡ put (led Input.view self.now (instruction insn.now) stack.old.forward (state_of state)) (held stack.old)) }
+        requires reads { reads_character (instruction insn.now) ≡ true → ReadsPlaces (reading_of (Input.view self.now.input)) (instruction insn.now) (state_of state) }
+        ensures { OnOk result (held stack.new ≡ put (successors (program_of self.now.program.now) (input_of (Input.view self.now.input)) (instruction insn.now) (direction_of stack.old.forward) (state_of state)) (held stack.old)) }
     {
         let Some(next) = advance(
             self.program,
@@ -131,7 +132,7 @@ impl<'a, Input: CharInput> Attempt<'a, Input> {
         requires suits { Suits (program_of self.now.program.now) (Input.view self.now.input) }
         requires whole { IsWhole (program_of self.now.program.now) (state_of state) }
         requires stands { Stands (program_of self.now.program.now) state.at (loop_again begin) }
-        ensures { OnOk result (held stack.new ≡ put (led Input.view self.now (loop_again begin) stack.old.forward (state_of state)) (held stack.old)) }
+        ensures { OnOk result (held stack.new ≡ put (successors (program_of self.now.program.now) (input_of (Input.view self.now.input)) (loop_again begin) (direction_of stack.old.forward) (state_of state)) (held stack.old)) }
     {
         match self.instruction(begin) {
             Insn::EnterLoop(repetition) => stack.again(repetition, begin, state),
@@ -152,8 +153,8 @@ impl<'a, Input: CharInput> Attempt<'a, Input> {
         requires plain { is_plain (instruction insn.now) ≡ true }
         requires stands { Stands (program_of self.now.program.now) state.at (instruction insn.now) }
         requires room { state.at + 1 < 2 ^ 64 }
-        requires reads { ReadsIn Input.view self.now (instruction insn.now) (state_of state) }
-        ensures { OnOk result (held stack.new ≡ put (led Input.view self.now (instruction insn.now) stack.old.forward (state_of state)) (held stack.old)) }
+        requires reads { reads_character (instruction insn.now) ≡ true → ReadsPlaces (reading_of (Input.view self.now.input)) (instruction insn.now) (state_of state) }
+        ensures { OnOk result (held stack.new ≡ put (successors (program_of self.now.program.now) (input_of (Input.view self.now.input)) (instruction insn.now) (direction_of stack.old.forward) (state_of state)) (held stack.old)) }
     {
         match insn {
             Insn::Jump { target } => {

@@ -2,7 +2,6 @@
 ghost use Rattle.std.specs.Prelude.{◌≡◌, ◌<◌, None, IfOk, IfSome, OnErr};
 ghost use Rattle.regress_match.specs.Iterating.{Finds, steps_on};
 ghost use Rattle.regress_engine_search.specs.Search.{Search, items_from, places_behind, IsPosition, IsStart, StartsAt, IsMatchOf, Steps};
-ghost use Rattle.regress_engine_copying.specs.Attempts.{search_in};
 
 use crate::search::PikeVMExecutor;
 use regress_engine_search::{ExecutorInput, Shown};
@@ -42,11 +41,11 @@ impl<'r, Input: ExecutorInput> PikeVMExecutor<'r, Input> {
         position: usize,
         next: &mut Option<usize>,
     ) -> Result<Option<Match>, AllocError>
-        requires { IsPosition (search_in self.old) position }
-        ensures kept { search_in self.new ≡ search_in self.old }
-        ensures found { IfOk result (λ found. Finds (items_from (search_in self.old)) (IsMatchOf (search_in self.old)) position found next.new) }
-        ensures inside { IfSome next.new (IsPosition (search_in self.old)) }
-        ensures nearer { IfSome next.new (λ p. places_behind (search_in self.old) p < places_behind (search_in self.old) position) }
+        requires { IsPosition (⟦<PikeVMExecutor<'r, Input> as MatchProducer>⟧.search_of self.old) position }
+        ensures kept { ⟦<PikeVMExecutor<'r, Input> as MatchProducer>⟧.search_of self.new ≡ ⟦<PikeVMExecutor<'r, Input> as MatchProducer>⟧.search_of self.old }
+        ensures found { IfOk result (λ found. Finds (items_from (⟦<PikeVMExecutor<'r, Input> as MatchProducer>⟧.search_of self.old)) (IsMatchOf (⟦<PikeVMExecutor<'r, Input> as MatchProducer>⟧.search_of self.old)) position found next.new) }
+        ensures inside { IfSome next.new (IsPosition (⟦<PikeVMExecutor<'r, Input> as MatchProducer>⟧.search_of self.old)) }
+        ensures nearer { IfSome next.new (λ p. places_behind (⟦<PikeVMExecutor<'r, Input> as MatchProducer>⟧.search_of self.old) p < places_behind (⟦<PikeVMExecutor<'r, Input> as MatchProducer>⟧.search_of self.old) position) }
         ensures last { OnErr result (next.new ≡ None) }
     {
         *next = None;

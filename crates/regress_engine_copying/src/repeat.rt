@@ -4,12 +4,11 @@ ghost use Rattle.regress_engine_insn.specs.Instructions.{Stands, single_loop};
 ghost use Rattle.regress_engine_insn.specs.InsnViews.{instruction};
 ghost use Rattle.regress_engine_code.specs.Standing.{program_of};
 ghost use Rattle.regress_engine_input.specs.Views.{direction_of, input_of, reading_of};
-ghost use Rattle.regress_engine_runs.specs.Runs.{after_times, one_by_one};
+ghost use Rattle.regress_engine_runs.specs.Runs.{after_times, one_by_one, successors};
 ghost use Rattle.regress_engine_runs.specs.Meets.{IsAtPlace};
 ghost use Rattle.regress_engine_search.specs.Ready.{IsBody};
 ghost use Rattle.regress_engine_search.specs.Search.{Suits};
 ghost use Rattle.regress_engine_search.specs.StateViews.{marks_of};
-ghost use Rattle.regress_engine_copying.specs.Attempts.{led, program_in, text_in};
 ghost use Rattle.regress_engine_copying.specs.StateOf.{state_of};
 ghost use Rattle.regress_engine_copying.specs.Held.{held, put};
 ghost use Rattle.regress_engine_copying.specs.Sound.{IsWhole};
@@ -35,9 +34,9 @@ impl<'a, Input: CharInput> Attempt<'a, Input> {
         ends: &mut Vec<usize>,
     ) -> Result<(), AllocError>
         requires suits { Suits (program_of self.now.program.now) (Input.view self.now.input) }
-        requires body { (at : ℕ) × Stands (program_in self.now) (at - 1) (instruction insn.now) × IsBody (program_in self.now) (Input.view self.now.input) at offset }
+        requires body { (at : ℕ) × Stands (program_of self.now.program.now) (at - 1) (instruction insn.now) × IsBody (program_of self.now.program.now) (Input.view self.now.input) at offset }
         requires groups { length groups.now ≡ self.now.program.now.groups }
-        ensures { OnOk result (ends.new.items ≡ one_by_one (program_in self.now) (text_in Input.view self.now) times (instruction insn.now) (direction_of forward) (map marks_of groups.now) offset) }
+        ensures { OnOk result (ends.new.items ≡ one_by_one (program_of self.now.program.now) (input_of (Input.view self.now.input)) times (instruction insn.now) (direction_of forward) (map marks_of groups.now) offset) }
     {
         ends.clear();
         let mut behind = offset;
@@ -70,7 +69,7 @@ impl<'a, Input: CharInput> Attempt<'a, Input> {
         requires whole { IsWhole (program_of self.now.program.now) (state_of state.now) }
         requires order { least ≤ most }
         requires body { IsBody (program_of self.now.program.now) (Input.view self.now.input) (state.now.at + 2) state.now.offset }
-        ensures { OnOk result (held stack.new ≡ put (led Input.view self.now (single_loop least most greedy) stack.old.forward (state_of state.now)) (held stack.old)) }
+        ensures { OnOk result (held stack.new ≡ put (successors (program_of self.now.program.now) (input_of (Input.view self.now.input)) (single_loop least most greedy) (direction_of stack.old.forward) (state_of state.now)) (held stack.old)) }
     {
         let insn = self.instruction(state.at + 1);
         let forward = stack.forward;

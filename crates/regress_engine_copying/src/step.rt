@@ -2,8 +2,9 @@
 ghost use Rattle.std.specs.Prelude.{◌≡◌, true, option_map, IfOk};
 ghost use Rattle.regress_engine_insn.specs.Instructions.{Instruction, Stands};
 ghost use Rattle.regress_engine_code.specs.Standing.{program_of};
+ghost use Rattle.regress_engine_input.specs.Views.{input_of, reading_of};
+ghost use Rattle.regress_engine_runs.specs.Meets.{reads_character, ReadsPlaces};
 ghost use Rattle.regress_engine_search.specs.Search.{Suits};
-ghost use Rattle.regress_engine_copying.specs.Attempts.{ReadsIn, program_in, text_in};
 ghost use Rattle.regress_engine_copying.specs.StateOf.{state_of};
 ghost use Rattle.regress_engine_copying.specs.Held.{held};
 ghost use Rattle.regress_engine_copying.specs.Sound.{IsWhole, AreSound};
@@ -30,8 +31,8 @@ impl<'a, Input: CharInput> Attempt<'a, Input> {
         requires whole { IsWhole (program_of self.now.program.now) (state_of state) }
         requires sound { AreSound (program_of self.now.program.now) (held stack.old).entries }
         requires stands { (i : Instruction) × Stands (program_of self.now.program.now) state.at i }
-        requires reads { (i : Instruction) → Stands (program_of self.now.program.now) state.at i → ReadsIn Input.view self.now i (state_of state) }
-        ensures leads { IfOk result (λ found. Steps (program_in self.now) (text_in Input.view self.now) (state_of state) (held stack.old) (option_map state_of found) (held stack.new)) }
+        requires reads { (i : Instruction) → Stands (program_of self.now.program.now) state.at i → reads_character i ≡ true → ReadsPlaces (reading_of (Input.view self.now.input)) i (state_of state) }
+        ensures leads { IfOk result (λ found. Steps (program_of self.now.program.now) (input_of (Input.view self.now.input)) (state_of state) (held stack.old) (option_map state_of found) (held stack.new)) }
         ensures sound { IfOk result (λ found. AreSound (program_of self.now.program.now) (held stack.new).entries) }
     {
         let insn = self.instruction(state.at);
