@@ -167,9 +167,9 @@ module _ (flow : Flow) (h : Heights) (v : View) (all : AreOfKind v.kind v.units)
       goes-on : (m : ℕ) (t : Whole) → Run program (input_of v) dir (whole (suc at) o loops groups ∷ []) m (Some t) → Answer (told continuation t.offset)
       goes-on m t run =
           let ms : List Marks = mixed 0 low high t.groups groups in
-          let (on, low') = atomic-beyond flow r v all program suits may.closed may.ranked may.unreferring dir low high continuation s running lies here m (Some t) run reads in
+          let (on, low') = atomic-beyond flow r v all program suits may.closed may.ranked dir low high continuation s running here m (Some t) run reads in
           let (n, a, next, is) = right continuation t.offset both.0.within low' (ap direction_of both.0.way ∙ running.way) (past-behind t.offset (on ms)) loops ms
-          (running-behind flow r v all program suits may.closed may.ranked dir atomic low high continuation s running here t.offset ms (on ms))
+          (running-behind flow r v all program suits may.closed may.ranked dir atomic low high continuation s running here t.offset ms low' (on ms))
           (λ u j met. along u j (behind here (m, run) (meets-first program (input_of v) met []))) in
           (suc (m + n), a, looks {m = m} {n = n} {q = Some t} {r = a} here run (subst (λ xs. Run program (input_of v) dir xs n a) (sym (append-nil (after_submatch atomic low high continuation s (Some t)))) next), is)
 

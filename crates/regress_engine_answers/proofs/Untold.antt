@@ -38,6 +38,7 @@ untold-fails flow h v all program suits linear a right start place reads none =
 
     live : AreRunning flow (ranking_of h) program (length v.units) Forward s
     live = running-first flow (ranking_of h) v all program suits linear.flows linear.ranked (linear.calm 0 linear.some) linear.begins linear.silent start
+        (place-lies v all start place)
 
     by_end : Ends program (input_of v) Forward (s ∷ []) (told_by a 0 start) → EndsIn program (input_of v) start None
     by_end (n, None, run, is) = (n, run)

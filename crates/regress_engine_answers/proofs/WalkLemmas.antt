@@ -393,7 +393,7 @@ module _ (flow : Flow) (h : Heights) (v : View) (all : AreOfKind v.kind v.units)
       good : (q : ℕ) → q ≤ last → (ms : List Marks) → IsBeyond r last dir s (whole continuation q way.loops ms) → Good w s p (whole continuation q way.loops ms)
       good q lies ms beyond =
           let lowers = (may.ranked at look way.running.calm here).0 in (
-            running-behind flow r v all program suits may.closed may.ranked dir kind low high continuation s way.running here q ms beyond,
+            running-behind flow r v all program suits may.closed may.ranked dir kind low high continuation s way.running here q ms lies beyond,
             (beyond, (lowers.within, lies)),
             lowers.same,
           )
@@ -477,7 +477,9 @@ module _ (flow : Flow) (h : Heights) (v : View) (all : AreOfKind v.kind v.units)
     pub atomic-into : (low high continuation : ℕ) → Stands program at (code.submatch atomic low high continuation)
         → (t : Whole) × IsOnWay flow h program v dir t (suc at) o gs × IsOnWay flow h program v dir w continuation t.offset (mixed 0 low high t.groups gs) × Past continuation t.offset
     atomic-into low high continuation here =
-        let (q, (m, inner), rest) = look-runs atomic low high continuation here in by_answer q m inner rest (atomic-beyond flow r v all program suits may.closed may.ranked may.unreferring dir low high continuation s way.running way.within here m q inner (λ u j met. way.reads u j (inside here met)))
+        let (q, (m, inner), rest) = look-runs atomic low high continuation here in
+        by_answer q m inner rest
+        (atomic-beyond flow r v all program suits may.closed may.ranked dir low high continuation s way.running here m q inner (λ u j met. way.reads u j (inside here met)))
       where
         by_answer : (q : Option Whole) (m : ℕ) → Run program input dir (onward s ∷ []) m q → Rest w s p (after_submatch atomic low high continuation s q)
             → IfSome q (λ t. ((ms : List Marks) → IsBeyond r last dir s (whole continuation t.offset way.loops ms)) × (t.offset ≤ last))

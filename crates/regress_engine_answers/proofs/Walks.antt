@@ -402,7 +402,7 @@ module _ (flow : Flow) (h : Heights) (v : View) (all : AreOfKind v.kind v.units)
       s = first_state program start
 
       live : AreRunning flow (ranking_of h) program (length v.units) Forward s
-      live = running-first flow (ranking_of h) v all program suits may.pass.closed may.pass.ranked may.calm may.forward may.silent start
+      live = running-first flow (ranking_of h) v all program suits may.pass.closed may.pass.ranked may.calm may.forward may.silent start (place-lies v all start place)
 
       by_end : Ends program (input_of v) Forward (s ∷ []) (told_by a 0 start)
           → (w : Whole) × IsOnWay flow h program v Forward w 0 start s.groups × EndsIn program (input_of v) start (Some w)

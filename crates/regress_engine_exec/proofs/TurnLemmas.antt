@@ -179,7 +179,6 @@ module _ (r : Ranking) where
   module _ (flow : Flow) where
     cycle-anyway : (at begin : ℕ) (f : LoopFields) → ∥ IsCycle flow r at begin f ∥₁ → IsCycle flow r at begin f
     cycle-anyway at begin f t = record {
-      forward = ∥∥₁_elim t (bool-set (r.forward at) true) (λ x. x.forward);
       least = ∥∥₁_elim t le_prop (λ x. x.least);
       top = ∥∥₁_elim t (nat-set (r.top f.loop_id) (r.rank (suc begin))) (λ x. x.top);
       more = lowers-anyway 0 at (suc begin) (∥∥₁_map t (λ x. x.more));

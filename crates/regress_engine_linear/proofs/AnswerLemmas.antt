@@ -133,7 +133,7 @@ module _ (flow : Flow) (r : Ranking) (v : View) (all : AreOfKind v.kind v.units)
       -- it goes on, with some groups
       on : (b : Bool) → Stands program at (code.submatch (lookaround b backward) low high continuation) → (hs : List Marks) → ReadsAlong program v dir (whole continuation o loops hs ∷ [])
           → Ends program (input_of v) dir (whole continuation o loops hs ∷ []) d
-      on b there hs along = behind' loops hs (running-behind flow r v all program suits closed ranked dir (lookaround b backward) low high continuation s running there o hs
+      on b there hs along = behind' loops hs (running-behind flow r v all program suits closed ranked dir (lookaround b backward) low high continuation s running there o hs running.inside
           (behind-beyond flow r v all program suits closed ranked (lookaround b backward) dir low high continuation s running.calm there o hs refl)) along
 
       by_answer : (b c : Bool) (q : Option Whole) → Stands program at (code.submatch (lookaround b backward) low high continuation) → is_some q ≡ c

@@ -11,26 +11,30 @@ use Rattle.regress_engine_insn.specs.Instructions as code
 use Rattle.regress_engine_runs.specs.States.{Marks, Whole, mixed, onward}
 use Rattle.regress_engine_runs.specs.UndoStack.{whole}
 use Rattle.regress_engine_runs.specs.Runs.{Run, after_submatch, ends, finds, goes, looks, successors}
-use Rattle.regress_engine_runs.specs.Meets.{Meets, behind, inside, later, now, reads_character, ReadsPlaces, referred}
+use Rattle.regress_engine_runs.specs.Meets.{Meets, behind, inside, later, now, reads_character, ReadsPlaces}
 use Rattle.regress_engine_search.specs.Search.{Suits}
 use Rattle.regress_engine_memory.specs.Flow.{Flow, IsFlow}
 use Rattle.regress_engine_memory.specs.Under.{IsFurther}
 use Rattle.regress_engine_memory.proofs.EachState.{each-append}
 use Rattle.regress_engine_linear.specs.Ranks.{Ranking, Lowers, Inside, AreRanked, AreRunning, IsBeyond}
 use Rattle.regress_engine_linear.proofs.Beyond.{leads-beyond}
-use Rattle.regress_engine_linear.proofs.ExitWays.{answer-lies}
 use Rattle.regress_engine_linear.proofs.Running.{further-on, running-behind, running-inside, running-step}
 
--- Contents that begin at an address and an offset end at another offset: where it goes on outside of their atomic group that is further on, or
--- at a lower rank.
+-- Contents that begin at an address and an offset end at another offset, in the text: where it goes on outside of their atomic group that is
+-- further on, or at a lower rank.
 abbrev pub Leaves : Ranking → (last : ℕ) → Direction → (at o q : ℕ) → Type 0
-Leaves r last dir at o q = r.outside at < r.count → IsFurther last dir o q ⊎ ((q ≡ o) × (r.rank (r.outside at) < r.rank at))
+Leaves r last dir at o q = (q ≤ last) × (r.outside at < r.count → IsFurther last dir o q ⊎ ((q ≡ o) × (r.rank (r.outside at) < r.rank at)))
 
 -- The offset at which it goes on behind what is matched by itself at an address and an offset: the same, or where the contents of an atomic
 -- group end.
 abbrev pub GoesOn : Ranking → (last : ℕ) → Submatch → Direction → (at o q : ℕ) → Type 0
 GoesOn r last (lookaround negated backward) dir at o q = q ≡ o
 GoesOn r last atomic dir at o q = Leaves r last dir (suc at) o q
+
+-- that offset lies in the text
+pub behind-lies : (r : Ranking) (last : ℕ) (kind : Submatch) (dir : Direction) (at o q : ℕ) → o ≤ last → GoesOn r last kind dir at o q → q ≤ last
+behind-lies r last (lookaround negated backward) dir at o q low same = subst (λ p. p ≤ last) (sym same) low
+behind-lies r last atomic dir at o q low leaves = leaves.0
 
 -- the contents of an atomic group are ranked lower than where it stands
 pub atomic-lower : (r : Ranking) (at continuation : ℕ) → Inside r atomic at continuation → r.rank (suc at) < r.rank at
@@ -84,7 +88,7 @@ module _ (flow : Flow) (r : Ranking) (v : View) (all : AreOfKind v.kind v.units)
       by_rank : (1 ≤ 0) ⊎ (r.rank continuation < r.rank s.at) → r.rank continuation < r.rank s.at
       by_rank (inl never) = absurd (omega (arith, never))
       by_rank (inr less) = less
-  behind-beyond atomic dir low high continuation s calm here q groups leaves = by_place (leaves (subst (λ b. b < r.count) (sym out) both.0.within))
+  behind-beyond atomic dir low high continuation s calm here q groups leaves = by_place (leaves.1 (subst (λ b. b < r.count) (sym out) both.0.within))
     where
       both : Lowers r 1 s.at continuation × Inside r atomic s.at continuation
       both = ranked s.at (code.submatch atomic low high continuation) calm here
@@ -119,17 +123,17 @@ module _ (flow : Flow) (r : Ranking) (v : View) (all : AreOfKind v.kind v.units)
 
   -- At a goal it goes on outside beyond where the run began.
   held-leaves : (dir : Direction) (at o : ℕ) (s : Whole) → Held dir at o s → Stands program s.at code.goal → Leaves r last dir at o s.offset
-  held-leaves dir at o s held here within = by_place held.place
+  held-leaves dir at o s held here = (held.live.inside, λ within. by_place (lower within) held.place)
     where
-      lower : r.rank (r.outside at) < r.rank s.at
-      lower =
+      lower : r.outside at < r.count → r.rank (r.outside at) < r.rank s.at
+      lower within =
           let less = ranked s.at code.goal held.live.calm here (subst (λ b. b < r.count) (sym held.same) within) in
           let e = ap r.rank held.same in
           omega (arith, less, e)
 
-      by_place : IsFrom dir at o s.at s.offset → IsFurther last dir o s.offset ⊎ ((s.offset ≡ o) × (r.rank (r.outside at) < r.rank at))
-      by_place (inl further) = inl further
-      by_place (inr (same, low)) = inr (same, omega (arith, lower, low))
+      by_place : r.rank (r.outside at) < r.rank s.at → IsFrom dir at o s.at s.offset → IsFurther last dir o s.offset ⊎ ((s.offset ≡ o) × (r.rank (r.outside at) < r.rank at))
+      by_place less (inl further) = inl further
+      by_place less (inr (same, low)) = inr (same, omega (arith, less, low))
 
   ends-beyond : {dir : Direction} {ss : List Whole} {n : ℕ} {a : Option Whole} → Run program (input_of v) dir ss n a → Reads dir ss → (at o : ℕ) → AllByRecursion (Held dir at o) ss
       → IfSome a (λ w. Leaves r last dir at o w.offset)
@@ -149,7 +153,8 @@ module _ (flow : Flow) (r : Ranking) (v : View) (all : AreOfKind v.kind v.units)
       (after-each (Held dir at o) kind dir low high continuation s a within (λ q groups on.
       let beyond = behind-beyond kind dir low high continuation s held.0.live.calm here q groups on in
       record {
-        live = running-behind flow r v all program suits closed ranked dir kind low high continuation s held.0.live here q groups beyond;
+        live = running-behind flow r v all program suits closed ranked dir kind low high continuation s held.0.live here q groups
+            (behind-lies r last kind dir s.at s.offset q held.0.live.inside on) beyond;
         place = from-on dir at o s.at s.offset continuation q held.0.place beyond;
         same = lowers.same ∙ held.0.same;
       })) held.1)
@@ -162,13 +167,12 @@ module _ (flow : Flow) (r : Ranking) (v : View) (all : AreOfKind v.kind v.units)
       ends-beyond run reads (suc s.at) s.offset (held-inside dir kind low high continuation s live here, tt)
 
   -- behind an atomic group it goes on beyond, and in the text
-  pub atomic-beyond : ((at : ℕ) (i : Instruction) → Stands program at i → referred i ≡ None) → (dir : Direction) (low high continuation : ℕ) (s : Whole) → Live dir s → s.offset ≤ last
-      → Stands program s.at (code.submatch atomic low high continuation) → (m : ℕ) (a : Option Whole) → Run program (input_of v) dir (onward s ∷ []) m a → Reads dir (onward s ∷ [])
+  pub atomic-beyond : (dir : Direction) (low high continuation : ℕ) (s : Whole) → Live dir s → Stands program s.at (code.submatch atomic low high continuation)
+      → (m : ℕ) (a : Option Whole) → Run program (input_of v) dir (onward s ∷ []) m a → Reads dir (onward s ∷ [])
       → IfSome a (λ w. ((groups : List Marks) → IsBeyond r last dir s (whole continuation w.offset s.loops groups)) × (w.offset ≤ last))
-  atomic-beyond unreferring dir low high continuation s live lies here m a run reads =
-      by_answer a (contents-leave dir atomic low high continuation s live here m a run reads) (answer-lies v all program suits unreferring run (lies, tt) reads)
+  atomic-beyond dir low high continuation s live here m a run reads = by_answer a (contents-leave dir atomic low high continuation s live here m a run reads)
     where
-      by_answer : (a : Option Whole) → IfSome a (λ w. Leaves r last dir (suc s.at) s.offset w.offset) → IfSome a (λ w. w.offset ≤ last)
+      by_answer : (a : Option Whole) → IfSome a (λ w. Leaves r last dir (suc s.at) s.offset w.offset)
           → IfSome a (λ w. ((groups : List Marks) → IsBeyond r last dir s (whole continuation w.offset s.loops groups)) × (w.offset ≤ last))
-      by_answer None leaves lies = tt
-      by_answer (Some w) leaves lies = (λ groups. behind-beyond atomic dir low high continuation s live.calm here w.offset groups leaves, lies)
+      by_answer None leaves = tt
+      by_answer (Some w) leaves = (λ groups. behind-beyond atomic dir low high continuation s live.calm here w.offset groups leaves, leaves.0)

@@ -1,26 +1,23 @@
 -- The exits of one-character loops, which of them is preferred, and small facts on runs.
-use Rattle.std.specs.Prelude.{IfSome, map, reverse}
+use Rattle.std.specs.Prelude.{map, reverse}
 use Rattle.std.specs.List.{AllByRecursion}
 use Rattle.std.proofs.Common.{◌≡◌, ◌⊎◌, inl, inr, ℕ, zero, suc, ◌+◌, ◌-◌, ◌≤◌, ◌||◌, Bool, true, false, List, [], ◌∷◌, ◌++◌, length, Option, None, Some, if◌then◌else◌, refl, sym, ap, ap₂, ◌∙◌, subst, arith, replicate, take}
 use Rattle.std.proofs.lemmas.List.{reverse-append}
 use Rattle.regress_meaning.specs.Meaning.{Direction}
 use Rattle.regress_meaning.specs.Inputs.{Input}
-use Rattle.regress_front_nodes.specs.Trees.{Submatch, lookaround, atomic}
 use Rattle.regress_engine_input.specs.Views.{View, AreOfKind, input_of, reading_of}
 use Rattle.regress_engine_insn.specs.Instructions.{Instruction, Program, Stands}
 use Rattle.regress_engine_insn.specs.Instructions as code
 use Rattle.regress_engine_runs.specs.States.{Marks, Whole}
-use Rattle.regress_engine_runs.specs.Runs.{Run, ends, finds, goes, looks, advance, after_submatch, after_times, as_far, counted, given_back, one_by_one, room, successors}
+use Rattle.regress_engine_runs.specs.Runs.{Run, finds, goes, looks, advance, after_times, as_far, counted, given_back, one_by_one, room}
 use Rattle.regress_engine_runs.specs.Closed.{takes_character}
-use Rattle.regress_engine_runs.specs.Meets.{IsAtPlace, behind, inside, later, now, referred}
+use Rattle.regress_engine_runs.specs.Meets.{IsAtPlace, referred}
 use Rattle.regress_engine_search.specs.Ready.{IsBody}
 use Rattle.regress_engine_search.specs.Search.{Suits}
 use Rattle.regress_engine_search.proofs.GivenBack.{given-back}
-use Rattle.regress_engine_memory.proofs.EachState.{each-append}
 use Rattle.regress_engine_memory.proofs.Taking.{advance-takes, after-on, one-takes, taking-unreferring}
 use Rattle.regress_engine_memory.proofs.Unreferring.{counted-any}
-use Rattle.regress_engine_linear.specs.Answered.{ReadsAlong, exit_at, first_at, last_at, one_at}
-use Rattle.regress_engine_linear.proofs.Within.{each-lies}
+use Rattle.regress_engine_linear.specs.Answered.{exit_at, first_at, last_at, one_at}
 
 -- ---- what is told of some offsets
 
@@ -256,28 +253,3 @@ pub runs-stand : {program : Program} {input : Input} {dir : Direction} {s : Whol
 runs-stand (finds here) = (code.goal, here)
 runs-stand (goes {i = i} here plain next) = (i, here)
 runs-stand (looks {kind = kind} {first = low} {last = high} {continuation = continuation} here inner next) = (code.submatch kind low high continuation, here)
-
-module _ (v : View) (all : AreOfKind v.kind v.units) (program : Program) (suits : Suits program v) (unreferring : (at : ℕ) (i : Instruction) → Stands program at i → referred i ≡ None) where
-  -- the answer of a run from states in the text lies in it
-  pub answer-lies : {d : Direction} {ss : List Whole} {n : ℕ} {q : Option Whole} → Run program (input_of v) d ss n q → AllByRecursion (λ u. u.offset ≤ length v.units) ss → ReadsAlong program v d ss
-      → IfSome q (λ t. t.offset ≤ length v.units)
-  answer-lies ends lies reads = tt
-  answer-lies (finds here) lies reads = lies.0
-  answer-lies (goes {dir = d} {i = i} {s = s} {ss = ss} here plain onward-run) lies reads =
-      answer-lies onward-run
-      (each-append (λ u. u.offset ≤ length v.units) (successors program (input_of v) i d s) ss
-      (each-lies v all program suits d i s (unreferring s.at i here) here plain lies.0 (λ is. (reads s i now here is).0)) lies.1)
-      (λ u j met. reads u j (later here plain met))
-  answer-lies (looks {dir = d} {kind = kind} {first = low} {last = high} {continuation = continuation} {s = s} {ss = ss} {m = m} {q = q} here inner onward-run) lies reads =
-      answer-lies onward-run
-      (each-append (λ u. u.offset ≤ length v.units) (after_submatch kind low high continuation s q) ss
-      (by_answer kind q lies.0 (answer-lies inner (lies.0, tt) (λ u j met. reads u j (inside here met)))) lies.1)
-      (λ u j met. reads u j (behind here (m, inner) met))
-    where
-      by_answer : (kind : Submatch) (q : Option Whole) → s.offset ≤ length v.units → IfSome q (λ t. t.offset ≤ length v.units) → AllByRecursion (λ u. u.offset ≤ length v.units) (after_submatch kind low high continuation s q)
-      by_answer (lookaround true backward) None low lies = (low, tt)
-      by_answer (lookaround true backward) (Some t) low lies = tt
-      by_answer (lookaround false backward) None low lies = tt
-      by_answer (lookaround false backward) (Some t) low lies = (low, tt)
-      by_answer atomic None low lies = tt
-      by_answer atomic (Some t) low lies = (lies, tt)

@@ -16,7 +16,7 @@ use Rattle.regress_engine_search.specs.Search.{Suits}
 use Rattle.regress_engine_memory.specs.Flow.{Flow, IsFlow}
 use Rattle.regress_engine_memory.proofs.EachState.{each-append}
 use Rattle.regress_engine_linear.specs.Ranks.{Ranking, AreRanked, AreRunning}
-use Rattle.regress_engine_linear.proofs.EndsBeyond.{Leaves, after-each, behind-beyond, contents-leave}
+use Rattle.regress_engine_linear.proofs.EndsBeyond.{Leaves, after-each, behind-beyond, behind-lies, contents-leave}
 use Rattle.regress_engine_linear.proofs.Running.{running-behind, running-inside, running-step}
 
 module _ (flow : Flow) (r : Ranking) (v : View) (all : AreOfKind v.kind v.units) (program : Program) (suits : Suits program v) (closed : IsFlow flow program) (ranked : AreRanked flow r program) where
@@ -30,8 +30,9 @@ module _ (flow : Flow) (r : Ranking) (v : View) (all : AreOfKind v.kind v.units)
   Reads dir ts = (u : Whole) (i : Instruction) → Meets program (input_of v) dir ts u → Stands program u.at i → reads_character i ≡ true → ReadsPlaces (reading_of v) i u
 
   -- at the first instruction no loop is live
-  pub running-first : flow.calm 0 ≡ true → r.forward 0 ≡ true → ((id : ℕ) → flow.live 0 id ≡ true → ⊥) → (o : ℕ) → Live Forward (first_state program o)
-  running-first calm forward silent o = record { calm = calm; way = ap direction_of forward; size = length-replicate program.loops (0, 0); loops = λ id l. absurd (silent id l) }
+  pub running-first : flow.calm 0 ≡ true → r.forward 0 ≡ true → ((id : ℕ) → flow.live 0 id ≡ true → ⊥) → (o : ℕ) → o ≤ last → Live Forward (first_state program o)
+  running-first calm forward silent o lies =
+      record { inside = lies; calm = calm; way = ap direction_of forward; size = length-replicate program.loops (0, 0); loops = λ id l. absurd (silent id l) }
 
   -- what follows a lookaround or an atomic group is under way, where its answer leaves it onward
   running-after : (dir : Direction) (kind : Submatch) (low high continuation : ℕ) (s : Whole) (q : Option Whole) → Live dir s → Stands program s.at (code.submatch kind low high continuation)
@@ -39,7 +40,7 @@ module _ (flow : Flow) (r : Ranking) (v : View) (all : AreOfKind v.kind v.units)
   running-after dir kind low high continuation s q running here within =
       after-each flow r v all program suits closed ranked (Live dir) kind dir low high continuation s q within (λ o groups on.
       running-behind flow r v all program suits closed ranked dir kind low high continuation s running here o groups
-      (behind-beyond flow r v all program suits closed ranked kind dir low high continuation s running.calm here o groups on))
+      (behind-lies r last kind dir s.at s.offset o running.inside on) (behind-beyond flow r v all program suits closed ranked kind dir low high continuation s running.calm here o groups on))
 
   -- Each state that is met is under way, where those are that the run begins with.
   pub running-met : {dir : Direction} {ts : List Whole} {u : Whole} → Meets program (input_of v) dir ts u → AllByRecursion (Live dir) ts → Reads dir ts → (d : Direction) × Live d u

@@ -58,13 +58,11 @@ module _ (h : Heights) (t : Table) where
 
   cycle-so : (at begin : ℕ) (f : LoopFields) → is_cycle h t at begin f ≡ true → IsCycle (flow_of t) (ranking_of h) at begin f
   cycle-so at begin f e =
-      let a = and_parts (forward_at h at) _ e in
-      let b = and_parts (nat_le f.least 1) _ a.1 in
+      let b = and_parts (nat_le f.least 1) _ e in
       let c = and_parts (top_of h f.loop_id == rank_at h (suc begin)) _ b.1 in
       let d = and_parts (lowers h 0 at (suc begin)) _ c.1 in
       let k = and_parts (lowers h 0 at f.exit) (not (holds (live_at t f.exit) f.loop_id)) d.1 in
       record {
-        forward = a.0;
         least = leb-true f.least 1 b.0;
         top = eqb-true (top_of h f.loop_id) (rank_at h (suc begin)) c.0;
         more = lowers-so 0 at (suc begin) d.0;

@@ -1,7 +1,7 @@
 -- What is under way stays so: loops that are live in a state are under way in each state that it leads to.
 use Rattle.std.specs.Prelude.{slice_get, slice_set}
 use Rattle.std.specs.List.{AllByRecursion}
-use Rattle.std.proofs.Common.{◌≡◌, ℕ, suc, ◌+◌, ◌<◌, ◌≤◌, ◌⊎◌, inl, inr, true, List, length, get_or, Option, Some, refl, sym, ap, ◌∙◌, subst, arith, get_or-set_same, get_or-set_other, length-set}
+use Rattle.std.proofs.Common.{◌≡◌, ℕ, suc, ◌+◌, ◌<◌, ◌≤◌, ◌⊎◌, inl, inr, true, List, [], ◌∷◌, length, get_or, Option, Some, refl, sym, ap, ◌∙◌, subst, arith, get_or-set_same, get_or-set_other, length-set}
 use Rattle.std.proofs.lemmas.Bool.{cases_eq}
 use Rattle.regress_meaning.specs.Meaning.{Direction, Forward, Backward}
 use Rattle.regress_engine_input.specs.Views.{View, AreOfKind, direction_of, input_of, reading_of}
@@ -21,6 +21,7 @@ use Rattle.regress_engine_memory.proofs.EachState.{each-choices, each-again}
 use Rattle.regress_engine_memory.proofs.Onward.{Takes, room-less, takes-none, flows-unreferring}
 use Rattle.regress_engine_memory.proofs.Taking.{each-moved, each-single}
 use Rattle.regress_engine_linear.specs.Ranks.{Ranking, Lowers, IsBeyond, IsCycle, Ranks, AreRanked, IsRunning, AreRunning}
+use Rattle.regress_engine_linear.proofs.Within.{each-lies}
 
 -- where a repetition is told of an instruction it stands
 pub fields-stand : (x : Option Instruction) (f : LoopFields) → fields_of x ≡ Some f → x ≡ Some (code.enter_loop f)
@@ -82,25 +83,38 @@ module _ (flow : Flow) (r : Ranking) (program : Program) (last : ℕ) (dir : Dir
   Running s = AreRunning flow r program last dir s
 
   -- with the data of all loops as they are
-  pub running-beyond : (s : Whole) (to q : ℕ) (groups : List Marks) → Running s → Hands flow s.at to → r.forward to ≡ r.forward s.at → IsBeyond r last dir s (whole to q s.loops groups)
-      → Running (whole to q s.loops groups)
-  running-beyond s to q groups running hands way beyond = record {
+  pub running-beyond : (s : Whole) (to q : ℕ) (groups : List Marks) → Running s → Hands flow s.at to → r.forward to ≡ r.forward s.at → q ≤ last
+      → IsBeyond r last dir s (whole to q s.loops groups) → Running (whole to q s.loops groups)
+  running-beyond s to q groups running hands way lies beyond = record {
+    inside = lies;
     calm = hands.calm;
     way = ap direction_of way ∙ running.way;
     size = running.size;
     loops = λ id l. running-on r last dir s.at to s.offset q id (get_or s.loops id (0, 0)) beyond (running.loops id (hands.live id l));
   }
 
-  pub running-handed : (s : Whole) (taken to q : ℕ) (groups : List Marks) → Running s → Hands flow s.at to → Lowers r taken s.at to → Takes last dir taken s.offset q
+  pub running-handed : (s : Whole) (taken to q : ℕ) (groups : List Marks) → Running s → Hands flow s.at to → Lowers r taken s.at to → Takes last dir taken s.offset q → q ≤ last
       → Running (record { at = to; offset = q; loops = s.loops; groups = groups })
-  running-handed s taken to q groups running hands lowers takes =
-      running-beyond s to q groups running hands lowers.way (beyond-by r last dir taken s.at to s.offset q lowers takes)
+  running-handed s taken to q groups running hands lowers takes lies =
+      running-beyond s to q groups running hands lowers.way lies (beyond-by r last dir taken s.at to s.offset q lowers takes)
+
+  -- at the same offset
+  running-there : (s : Whole) (to : ℕ) (groups : List Marks) → Running s → Hands flow s.at to → Lowers r 0 s.at to
+      → Running (record { at = to; offset = s.offset; loops = s.loops; groups = groups })
+  running-there s to groups running hands lowers =
+      running-handed s 0 to s.offset groups running hands lowers (takes-none last dir s.offset s.offset refl) running.inside
+
+  -- of states that lie in the text, where that is asked of them
+  running-each : (us : List Whole) → AllByRecursion (λ u. u.offset ≤ last → Running u) us → AllByRecursion (λ u. u.offset ≤ last) us → AllByRecursion Running us
+  running-each [] running lie = tt
+  running-each (u ∷ us) running lie = (running.0 lie.0, running-each us running.1 lie.1)
 
   -- with other data of one loop, that is under way if it is live there
   running-written : (s : Whole) (id to : ℕ) (ms : List (ℕ × ℕ)) → length ms ≡ program.loops → ((k : ℕ) → (k ≡ id → ⊥) → get_or ms k (0, 0) ≡ get_or s.loops k (0, 0))
       → Running s → Writes flow id s.at to → Lowers r 0 s.at to → (flow.live to id ≡ true → IsRunning r last dir to s.offset id (get_or ms id (0, 0)))
       → Running (record s { at = to; loops = ms })
   running-written s id to ms size others running writes lowers new = record {
+    inside = running.inside;
     calm = writes.calm;
     way = ap direction_of lowers.way ∙ running.way;
     size = size;
@@ -124,10 +138,6 @@ module _ (flow : Flow) (r : Ranking) (v : View) (all : AreOfKind v.kind v.units)
 
   abbrev Live : Whole → Type 0
   Live s = AreRunning flow r program last dir s
-
-  -- the same offset
-  stays : (s : Whole) → Takes last dir 0 s.offset s.offset
-  stays s = takes-none last dir s.offset s.offset refl
 
   -- what is written of a loop
   abbrev set : LoopFields → List (ℕ × ℕ) → ℕ × ℕ → List (ℕ × ℕ)
@@ -174,11 +184,11 @@ module _ (flow : Flow) (r : Ranking) (v : View) (all : AreOfKind v.kind v.units)
           none = let least = cycle.least in omega (arith, least)
 
       low : 0 + room last dir s.offset ≤ last
-      low = by_way dir (sym running.way ∙ ap direction_of cycle.forward)
+      low = by_way dir running.inside
         where
-          by_way : (d : Direction) → d ≡ Forward → 0 + room last d s.offset ≤ last
-          by_way Forward e = omega arith
-          by_way Backward e = absurd (cc e)
+          by_way : (d : Direction) → s.offset ≤ last → 0 + room last d s.offset ≤ last
+          by_way Forward lies = omega arith
+          by_way Backward lies = omega (arith, lies)
 
       more : Live (record s { at = suc s.at; loops = set f written twice })
       more =
@@ -195,7 +205,7 @@ module _ (flow : Flow) (r : Ranking) (v : View) (all : AreOfKind v.kind v.units)
   goes-on s begin f running within live writes hands cycle = (
     running-written flow r program last dir s f.loop_id (suc begin) (set f s.loops new) (as-long f within s.loops running.size new) (others f within s.loops running.size new) running writes cycle.more
         (λ l. subst (IsRunning r last dir (suc begin) s.offset f.loop_id) (sym (it f within s.loops running.size new)) (running-more r last dir begin s.offset x.0 f.loop_id room-left cycle.top)),
-    running-handed flow r program last dir s 0 f.exit s.offset s.groups running hands cycle.out (stays s),
+    running-there flow r program last dir s f.exit s.groups running hands cycle.out,
   )
     where
       x : ℕ × ℕ
@@ -226,6 +236,12 @@ module _ (flow : Flow) (r : Ranking) (v : View) (all : AreOfKind v.kind v.units)
           (subst (λ (x : LoopFields). Writes flow x.loop_id s.at (suc begin)) in_flow writes) (subst (λ (x : LoopFields). Hands flow s.at x.exit) in_flow hands)
           (subst (IsCycle flow r s.at begin) in_ranks cycle)
 
+  -- each state that an instruction leads to lies in the text
+  all-lie : (s : Whole) (i : Instruction) → Live s → Stands program s.at i → is_plain i ≡ true → (reads_character i ≡ true → ReadsPlaces (reading_of v) i s)
+      → AllByRecursion (λ u. u.offset ≤ last) (successors program (input_of v) i dir s)
+  all-lie s i running here plain reads =
+      each-lies v all program suits dir i s (flows-unreferring flow program s.at i (closed s.at i running.calm here)) here plain running.inside (λ is. (reads is).0)
+
   -- Each state that an instruction leads to is under way.
   pub running-step : (s : Whole) (i : Instruction) → Live s → Stands program s.at i → is_plain i ≡ true → (reads_character i ≡ true → ReadsPlaces (reading_of v) i s)
       → AllByRecursion Live (successors program (input_of v) i dir s)
@@ -234,30 +250,34 @@ module _ (flow : Flow) (r : Ranking) (v : View) (all : AreOfKind v.kind v.units)
   running-step s (code.back k icase) running here plain reads = absurd (ranked s.at (code.back k icase) running.calm here)
   running-step s (code.submatch kind first high continuation) running here plain reads = absurd (cc plain)
   running-step s (code.jump a) running here plain reads =
-      (running-handed flow r program last dir s 0 a s.offset s.groups running (closed s.at (code.jump a) running.calm here) (ranked s.at (code.jump a) running.calm here) (stays s), tt)
+      (running-there flow r program last dir s a s.groups running (closed s.at (code.jump a) running.calm here) (ranked s.at (code.jump a) running.calm here), tt)
   running-step s (code.alt a) running here plain reads =
       let hands = closed s.at (code.alt a) running.calm here in
       let lowers = ranked s.at (code.alt a) running.calm here in (
-        running-handed flow r program last dir s 0 (suc s.at) s.offset s.groups running hands.0 lowers.0 (stays s),
-        (running-handed flow r program last dir s 0 a s.offset s.groups running hands.1 lowers.1 (stays s), tt),
+        running-there flow r program last dir s (suc s.at) s.groups running hands.0 lowers.0,
+        (running-there flow r program last dir s a s.groups running hands.1 lowers.1, tt),
       )
   running-step s (code.begin_group k) running here plain reads =
-      (running-handed flow r program last dir s 0 (suc s.at) s.offset _ running (closed s.at (code.begin_group k) running.calm here) (ranked s.at (code.begin_group k) running.calm here) (stays s), tt)
+      (running-there flow r program last dir s (suc s.at) _ running (closed s.at (code.begin_group k) running.calm here) (ranked s.at (code.begin_group k) running.calm here), tt)
   running-step s (code.end_group k) running here plain reads =
-      (running-handed flow r program last dir s 0 (suc s.at) s.offset _ running (closed s.at (code.end_group k) running.calm here) (ranked s.at (code.end_group k) running.calm here) (stays s), tt)
+      (running-there flow r program last dir s (suc s.at) _ running (closed s.at (code.end_group k) running.calm here) (ranked s.at (code.end_group k) running.calm here), tt)
   running-step s (code.reset_group k) running here plain reads =
-      (running-handed flow r program last dir s 0 (suc s.at) s.offset _ running (closed s.at (code.reset_group k) running.calm here) (ranked s.at (code.reset_group k) running.calm here) (stays s), tt)
+      (running-there flow r program last dir s (suc s.at) _ running (closed s.at (code.reset_group k) running.calm here) (ranked s.at (code.reset_group k) running.calm here), tt)
   running-step s (code.enter_loop f) running here plain reads =
       let both = enters s f running here in each-choices Live f s.at (entered (input_of v) dir f s) both.0 both.1
   running-step s (code.loop_again begin) running here plain reads =
       each-again Live (fields_of (slice_get program.instructions begin)) begin s (λ f is. ends-on s begin f running here (fields-stand (slice_get program.instructions begin) f is))
   running-step s (code.single_loop least most greedy) running here plain reads =
-      each-single v all program suits dir Live s least most greedy here (reads refl).0
+      running-each flow r program last dir (successors program (input_of v) (code.single_loop least most greedy) dir s)
+      (each-single v all program suits dir (λ u. u.offset ≤ last → Live u) s least most greedy here (reads refl).0
       (λ q takes. running-handed flow r program last dir s least (suc (suc s.at)) q s.groups running (closed s.at (code.single_loop least most greedy) running.calm here).0
-      (ranked s.at (code.single_loop least most greedy) running.calm here) takes)
+      (ranked s.at (code.single_loop least most greedy) running.calm here) takes))
+      (all-lie s (code.single_loop least most greedy) running here plain reads)
   running-step s i running here plain reads =
-      each-moved v all program suits dir Live s i (flows-unreferring flow program s.at i (closed s.at i running.calm here))
-      (λ q takes. running-handed flow r program last dir s (taken_by i) (suc s.at) q s.groups running (closed s.at i running.calm here) (ranked s.at i running.calm here) takes)
+      running-each flow r program last dir (successors program (input_of v) i dir s)
+      (each-moved v all program suits dir (λ u. u.offset ≤ last → Live u) s i (flows-unreferring flow program s.at i (closed s.at i running.calm here))
+      (λ q takes. running-handed flow r program last dir s (taken_by i) (suc s.at) q s.groups running (closed s.at i running.calm here) (ranked s.at i running.calm here) takes))
+      (all-lie s i running here plain reads)
 
   -- ---- lookarounds and atomic groups
 
@@ -267,6 +287,7 @@ module _ (flow : Flow) (r : Ranking) (v : View) (all : AreOfKind v.kind v.units)
     running-inside =
         let anew = (closed s.at (code.submatch kind low high continuation) running.calm here).0 in
         record {
+          inside = running.inside;
           calm = anew.calm;
           way = (ranked s.at (code.submatch kind low high continuation) running.calm here).1.way ∙ ap (submatch_direction kind) running.way;
           size = running.size;
@@ -274,7 +295,7 @@ module _ (flow : Flow) (r : Ranking) (v : View) (all : AreOfKind v.kind v.units)
         }
 
     -- behind them the loops outside are as they were
-    pub running-behind : (o : ℕ) (groups : List Marks) → IsBeyond r last dir s (whole continuation o s.loops groups) → Live (whole continuation o s.loops groups)
-    running-behind o groups beyond =
+    pub running-behind : (o : ℕ) (groups : List Marks) → o ≤ last → IsBeyond r last dir s (whole continuation o s.loops groups) → Live (whole continuation o s.loops groups)
+    running-behind o groups lies beyond =
         running-beyond flow r program last dir s continuation o groups running (closed s.at (code.submatch kind low high continuation) running.calm here).1
-        (ranked s.at (code.submatch kind low high continuation) running.calm here).0.way beyond
+        (ranked s.at (code.submatch kind low high continuation) running.calm here).0.way lies beyond

@@ -18,7 +18,7 @@ use Rattle.regress_engine_memory.specs.Agreeing.{EndAlike}
 use Rattle.regress_engine_memory.specs.Under.{IsFurther}
 use Rattle.regress_engine_memory.proofs.Onward.{flows-unreferring}
 use Rattle.regress_engine_linear.specs.Ranks.{Ranking, AreRanked, AreRunning, AreUnboundedOrOnce, AreBeside, AllBeside, FailsAnyhow}
-use Rattle.regress_engine_linear.proofs.EndsBeyond.{GoesOn, Leaves, behind-beyond, contents-leave}
+use Rattle.regress_engine_linear.proofs.EndsBeyond.{GoesOn, Leaves, behind-beyond, behind-lies, contents-leave}
 use Rattle.regress_engine_linear.proofs.Running.{running-behind, running-inside, running-step}
 use Rattle.regress_engine_linear.proofs.Alike.{StandAlike, shape-on}
 
@@ -138,13 +138,14 @@ module _ (flow : Flow) (r : Ranking) (v : View) (all : AreOfKind v.kind v.units)
       let within = contents-leave flow r v all program suits closed ranked dir kind low high continuation t both.0.second here m a inner (λ u j met. reads u j (inside here met)) in
       let beside : (o : ℕ) (gs hs : List Marks) → GoesOn r last kind dir t.at t.offset o → Both dir (whole continuation o s.loops gs) (whole continuation o t.loops hs) = λ o gs hs on.
       let beyond = behind-beyond flow r v all program suits closed ranked kind dir low high continuation t both.0.second.calm here o hs on in
+      let lies = behind-lies r last kind dir t.at t.offset o both.0.second.inside on in
       record {
         at = refl;
         offset = refl;
-        first = running-behind flow r v all program suits closed ranked dir kind low high continuation s both.0.first there o gs
+        first = running-behind flow r v all program suits closed ranked dir kind low high continuation s both.0.first there o gs lies
             (subst (λ a. IsFurther last dir s.offset o ⊎ ((o ≡ s.offset) × (r.rank continuation < r.rank a))) (sym both.0.at)
             (subst (λ e. IsFurther last dir e o ⊎ ((o ≡ e) × (r.rank continuation < r.rank t.at))) (sym both.0.offset) beyond));
-        second = running-behind flow r v all program suits closed ranked dir kind low high continuation t both.0.second here o hs beyond;
+        second = running-behind flow r v all program suits closed ranked dir kind low high continuation t both.0.second here o hs lies beyond;
       } in
       let (q, run, same) = beside-run next (λ u j met. reads u j (behind here (m, inner) met)) (after_submatch kind low high continuation s p ++ ss)
       (both-append dir (after_submatch kind low high continuation s p) (after_submatch kind low high continuation t a) ss ts

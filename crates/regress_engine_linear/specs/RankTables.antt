@@ -77,8 +77,8 @@ module _ (h : Heights) where
   module _ (t : Table) where
     -- a repetition that begins at an address goes on from another
     abbrev pub is_cycle : (at begin : ℕ) → LoopFields → Bool
-    is_cycle at begin f = forward_at at && (nat_le f.least 1 && ((top_of f.loop_id == rank_at (suc begin))
-        && (lowers 0 at (suc begin) && (lowers 0 at f.exit && not (holds (live_at t f.exit) f.loop_id)))))
+    is_cycle at begin f = nat_le f.least 1 && ((top_of f.loop_id == rank_at (suc begin))
+        && (lowers 0 at (suc begin) && (lowers 0 at f.exit && not (holds (live_at t f.exit) f.loop_id))))
 
     -- where an instruction begins one
     abbrev pub cycles : (at begin : ℕ) → Option LoopFields → Bool

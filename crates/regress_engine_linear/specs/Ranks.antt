@@ -39,10 +39,8 @@ pub record Inside (r : Ranking) (kind : Submatch) (at continuation : ℕ) : Type
   pub rank : ((r.forward (suc at) ≡ r.forward at) × (r.rank (suc at) < r.rank at)) ⊎ ((r.forward at ≡ true) × (r.forward (suc at) ≡ false))
   pub outside : kind ≡ atomic → r.outside (suc at) ≡ continuation
 
--- A repetition that begins at an address goes on from another: it is read forward, its body begins with its rank, and behind it its loop is
--- not live.
+-- A repetition that begins at an address goes on from another: its body begins with its rank, and behind it its loop is not live.
 pub record IsCycle (flow : Flow) (r : Ranking) (at begin : ℕ) (f : LoopFields) : Type 0 where
-  pub forward : r.forward at ≡ true
   pub least : f.least ≤ 1
   pub top : r.top f.loop_id ≡ r.rank (suc begin)
   pub more : Lowers r 0 at (suc begin)
@@ -82,8 +80,9 @@ pub record IsRunning (r : Ranking) (last : ℕ) (dir : Direction) (at o id : ℕ
   pub few : x.0 + room last dir x.1 ≤ suc last
   pub place : ((x.1 ≡ o) × (r.rank at ≤ r.top id)) ⊎ IsFurther last dir x.1 o
 
--- The loops that are live in a state are under way.
+-- A state lies in the text, and the loops that are live there are under way.
 pub record AreRunning (flow : Flow) (r : Ranking) (program : Program) (last : ℕ) (dir : Direction) (s : Whole) : Type 0 where
+  pub inside : s.offset ≤ last
   pub calm : flow.calm s.at ≡ true
   pub way : direction_of (r.forward s.at) ≡ dir
   pub size : length s.loops ≡ program.loops

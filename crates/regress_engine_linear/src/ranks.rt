@@ -111,8 +111,7 @@ impl RankTable {
     {
         let id = repetition.loop_id as usize;
         let exit = repetition.exit as usize;
-        self.is_forward(at)
-            && repetition.min_iters <= 1
+        repetition.min_iters <= 1
             && self.top(id) == self.rank(begin + 1)
             && self.lowers(0, at, begin + 1)
             && self.lowers(0, at, exit)
