@@ -39,9 +39,9 @@ StepsTo table v before after (Some (start, end)) =
     ≤ before + room (length v.units) Forward start * length (heights_in table).order + length (heights_in table).order
 
 -- what is told while a table is filled is so, by the ranks of its program, in the text that is worked out
-abbrev pub IsFilledIn : {I : Type 0} {g : _} → (I → View) → Answering I g → LinearTable → Answers → (forward : Bool) → (rank offset : ℕ) → Type 0
+abbrev pub IsFilledIn : {I : Type 0} → (I → View) → Answering I → LinearTable → Answers → (forward : Bool) → (rank offset : ℕ) → Type 0
 IsFilledIn view x table a forward rank offset = IsFilled (flow_in table) (heights_in table) (program_of x.program.now) (view x.input) a forward rank offset
 
 -- an instruction that changes nothing but the offset is ready to be done at one
-abbrev pub IsReadyIn : {I : Type 0} {g : _} → (I → View) → Answering I g → Instruction → (offset : ℕ) → Type 0
+abbrev pub IsReadyIn : {I : Type 0} → (I → View) → Answering I → Instruction → (offset : ℕ) → Type 0
 IsReadyIn view x i offset = is_simple i ≡ true → IsReady (program_of x.program.now) (view x.input) i (map marks_of x.groups.now) offset
