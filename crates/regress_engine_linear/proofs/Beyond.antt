@@ -1,13 +1,13 @@
 -- What a state leads to is beyond it, so that no run comes back to where it was.
 use Rattle.std.specs.Prelude.{slice_get}
 use Rattle.std.specs.List.{AllByRecursion}
-use Rattle.std.proofs.Common.{◌≡◌, ℕ, suc, ◌<◌, ◌≤◌, ◌⊎◌, inl, inr, true, List, [], ◌∷◌, length, refl, ap, subst, arith}
+use Rattle.std.proofs.Common.{◌≡◌, ℕ, suc, ◌<◌, ◌⊎◌, true, List, [], ◌∷◌, length, refl, subst}
 use Rattle.regress_meaning.specs.Meaning.{Direction}
 use Rattle.regress_engine_input.specs.Views.{View, AreOfKind, input_of, reading_of}
 use Rattle.regress_engine_insn.specs.Instructions.{LoopFields, Instruction, Program, Stands}
 use Rattle.regress_engine_insn.specs.Instructions as code
 use Rattle.regress_engine_runs.specs.States.{Whole}
-use Rattle.regress_engine_runs.specs.Runs.{entered, fields_of, is_plain, one_more, room, successors}
+use Rattle.regress_engine_runs.specs.Runs.{entered, fields_of, is_plain, one_more, successors}
 use Rattle.regress_engine_runs.specs.Meets.{reads_character, ReadsPlaces}
 use Rattle.regress_engine_search.specs.Search.{Suits}
 use Rattle.regress_engine_memory.specs.Flow.{Flow, IsFlow}
