@@ -55,8 +55,8 @@ places-smaller g c =
     let v = g.Input.InputIndexer.view c.args.self.now.input in
     let input = input_of v in
     let less =
-        nearer input (moves v) c.args.forward c.args.near c.in_ok-way.way _ c.in-Some-beside.before
-        (ap (λ d. input.next d c.in_ok-way.way) (sym (direction_of-against c.args.forward)) ∙ sym c.in-Some-beside.ensures) (some-ahead _ c.if-not-is_ahead.ensures.gap) in
+    nearer input (moves v) c.args.forward c.args.near c.in_ok-way.way _ c.in-Some-beside.before
+    (ap (λ d. input.next d c.in_ok-way.way) (sym (direction_of-against c.args.forward)) ∙ sym c.in-Some-beside.ensures) (some-ahead _ c.if-not-is_ahead.ensures.gap) in
     let low = c.in_ok-way.ensures.nearer in
     omega (arith, less, low)
 
