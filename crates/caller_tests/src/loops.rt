@@ -1,5 +1,7 @@
 //! What callers do with matches. What they ask of a match and of a start is said by the calls that give them; only a search that
 //! goes on from a match of a loop takes a line of proof, which names that clause.
+ghost use Rattle.std.specs.Prelude.{ℕ};
+ghost use Rattle.regress_meaning.specs.Offsets.{Begins, of_utf8};
 
 use crate::told::compiled;
 use regress::{Error, Match, Regex, Tables};
@@ -42,13 +44,20 @@ fn second(regex: &Regex, text: &str) -> Result<Option<Match>, Error> {
     regex.find_from(text, first.end())?.next().transpose()
 }
 
+/// Where the first match from an offset on begins.
+fn first_start(regex: &Regex, text: &str, from: usize) -> Result<Option<usize>, Error>
+    requires { (place : ℕ) × Begins (of_utf8 text.now) from place }
+{
+    let first = regex.find_from(text, from)?.next().transpose()?;
+    Ok(first.map(|found| found.start()))
+}
+
 /// Of each match, where the first match behind it begins.
 fn starts_behind(alloc: Global, regex: &Regex, text: &str) -> Result<Vec<Option<usize>>, Error> {
     let mut starts = Vec::new(alloc);
     for found in regex.find_iter(text)? {
         let found = found?;
-        let behind = regex.find_from(text, found.end())?.next().transpose()?;
-        starts.push(behind.map(|found| found.start()))?;
+        starts.push(first_start(regex, text, found.end())?)?;
     }
     Ok(starts)
 }
