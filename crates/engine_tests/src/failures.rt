@@ -259,6 +259,18 @@ const HOSTILE: &[HostileRow] = &[
         "c",
         Some((0, 20_001)),
     ),
+    // Those that turn the direction are told of by levels, and atomic groups through those inside.
+    ("(?:(?<=(?=a*b)a)a|a)*c", "", "a", 20_000, "b", None),
+    ("(?:(?>a(?>a|ab)))*c", "", "a", 20_000, "", None),
+    // What is visited once may have loops of one character.
+    (
+        "^(?=(.*b))(?=.*([ac])).{8,}$",
+        "",
+        "a",
+        50_000,
+        "b",
+        Some((0, 50_001)),
+    ),
     // Of a program that is not linear there is no table.
     ("(?:(?=(a*)b)a)*c", "", "a", 1_000, "b", None),
     // What is known of an iteration that has taken nothing is not known of one that has.

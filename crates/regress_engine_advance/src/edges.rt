@@ -1,5 +1,5 @@
 //! What is asked of an offset: whether a line or a word begins or ends there.
-ghost use Rattle.std.specs.Prelude.{◌≡◌, ◌&&◌, ◌||◌, Bool, true, not, List, is_some};
+ghost use Rattle.std.specs.Prelude.{◌≡◌, ◌&&◌, ◌||◌, Bool, true, false, not, List, is_some, IfSome};
 ghost use Rattle.regress_meaning.specs.Class.{is_word};
 ghost use Rattle.regress_meaning.specs.Meaning.{is_line_end, is_some_and, word_at};
 ghost use Rattle.regress_meaning.specs.Steps.{point, at_boundary, only_if};
@@ -10,7 +10,7 @@ ghost use Rattle.regress_engine_runs.specs.States.{Marks};
 ghost use Rattle.regress_engine_runs.specs.Runs.{advance};
 ghost use Rattle.regress_engine_singles.specs.Taking.{is_assertion};
 
-use crate::reading::beside;
+use crate::reading::{ascii_ahead, ascii_before, beside};
 use regress_engine_input::InputIndexer;
 use regress_engine_insn::Insn;
 use regress_engine_matchers::{CharInput, CharProperties};
@@ -86,6 +86,21 @@ pub fn boundary<Input: CharInput>(input: &Input, folded: bool, offset: usize) ->
     ensures { result ≡ at_boundary (input_of (Input.view input.now)) folded offset }
 {
     word_beside(input, folded, false, offset) != word_beside(input, folded, true, offset)
+}
+
+/// Whether a word begins or ends at an offset of bytes, where characters of ASCII stand on both of its sides; else `None`.
+///
+/// ```rust
+/// let edge = ascii_boundary(&input, 1); // of `a b` `Some(true)`
+/// ```
+#[inline(always)]
+pub fn ascii_boundary<Input: CharInput>(input: &Input, offset: usize) -> Option<bool>
+    ensures { IfSome result (λ edge. edge ≡ at_boundary (input_of (Input.view input.now)) false offset) }
+{
+    let (before, _) = ascii_before(input, offset)?;
+    let (ahead, _) = ascii_ahead(input, offset)?;
+    let was = <Input::CharProps as CharProperties>::is_word_char(before);
+    Some(was != <Input::CharProps as CharProperties>::is_word_char(ahead))
 }
 
 /// Whether what an instruction asks of an offset is so, as `^`, `$`, `\b` and `\B` do; of others nothing is said.

@@ -16,7 +16,7 @@ mod times;
 pub use advancing::advance;
 pub use characters::{any, any_in_line, ascii_bracket, bracket, this_char};
 pub use dead::{is_dead, is_dead_ahead, is_dead_behind};
-pub use edges::{boundary, holds_at, is_word, word_beside};
+pub use edges::{ascii_boundary, boundary, holds_at, is_word, word_beside};
 pub use first::taken_first;
 pub use leads::lead_ahead;
 pub use literals::{bytes_beside, other_ahead};

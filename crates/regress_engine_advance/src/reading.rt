@@ -23,7 +23,10 @@ fn read<Input: InputIndexer, Dir: Direction>(
 
 /// The character ahead of an offset, and the offset behind it, where a character of ASCII stands there in bytes.
 #[inline(always)]
-fn ascii_ahead<Input: InputIndexer>(input: &Input, offset: usize) -> Option<(Input::Element, usize)>
+pub(crate) fn ascii_ahead<Input: InputIndexer>(
+    input: &Input,
+    offset: usize,
+) -> Option<(Input::Element, usize)>
     ensures { IfSome result (λ x. (input_of (Input.view input.now)).next ahead offset ≡ Some (Input.Element.code x.0, x.1)) }
 {
     let text = input.bytes()?;
@@ -36,7 +39,7 @@ fn ascii_ahead<Input: InputIndexer>(input: &Input, offset: usize) -> Option<(Inp
 
 /// The character before an offset, and the offset before it, where a character of ASCII stands there in bytes.
 #[inline(always)]
-fn ascii_before<Input: InputIndexer>(
+pub(crate) fn ascii_before<Input: InputIndexer>(
     input: &Input,
     offset: usize,
 ) -> Option<(Input::Element, usize)>

@@ -1,8 +1,9 @@
 -- Sets of first bytes, as tests.
 use Rattle.std.specs.Prelude.{get_or, slice_get, nat_eq, encode_utf8}
-use Rattle.std.proofs.Common.{◌≡◌, ◌⊎◌, inl, inr, ℕ, ◌≤◌, ◌<◌, ◌||◌, ◌&&◌, ◌==◌, not, Bool, true, false, [], ◌∷◌, Some, sym, ap, ◌∙◌, subst, arith}
+use Rattle.std.proofs.Common.{◌≡◌, ◌⊎◌, inl, inr, ℕ, ◌≤◌, ◌<◌, ◌||◌, ◌&&◌, ◌==◌, not, Bool, true, false, [], ◌∷◌, length, Some, sym, ap, ◌∙◌, subst, arith}
 use Rattle.std.proofs.lemmas.Bool.{eqb-true, eq-eqb, and_parts, and_from, cases_lt, true≢false}
 use Rattle.std.proofs.lemmas.Bool.Decides.{nat_tests}
+use Rattle.std.proofs.lemmas.List.{nil_from_length}
 use Rattle.std.proofs.lemmas.Option.{get_or_from_slice_get}
 use Rattle.std.proofs.lemmas.Str.{encode_ascii}
 use Rattle.std.proofs.Math.Bool.{or-false}
@@ -14,7 +15,7 @@ use Rattle.regress_meaning.specs.Inputs.{is_continuation}
 use Rattle.regress_meaning.proofs.TableLemmas.{same_bool, some_below-from, some_below-true}
 use Rattle.regress_front_sets.proofs.FirstByteLemmas.{lead}
 use Rattle.regress_front_bytes.specs.ByteSets.{members}
-use Rattle.regress_engine_insn.proofs.BitmapLemmas.{holds-members}
+use Rattle.regress_engine_insn.proofs.BitmapLemmas.{holds-members, member_byte}
 use Rattle.regress_engine_prefix.specs.FirstBytes.{AreFirstOf, BeginsOneOf}
 use Rattle.regress_engine_prefix.proofs.LeadLemmas.{has-lead, AreFirstOf-same}
 use Rattle.regress_engine_analysis.specs.MayBegin.{leads, may_lead}
@@ -98,3 +99,7 @@ line-ends c below = grind (arith, nat_tests)
 
 pub line_end-first : (set : ℕ → Bool) → AreFirstOf (holds (0xA ∷ 0xD ∷ 0x2028 ∷ 0x2029 ∷ [])) set → AreFirstOf is_line_end set
 line_end-first set first = AreFirstOf-same (holds (0xA ∷ 0xD ∷ 0x2028 ∷ 0x2029 ∷ [])) is_line_end set line-ends first
+
+-- of a set of no member
+pub none-counted : (set : ℕ → Bool) → length (members set) ≡ 0 → (b : ℕ) → b < 256 → set b ≡ false
+none-counted set none b small = sym (member_byte set b small) ∙ ap (λ xs. holds xs b) (nil_from_length (members set) none)

@@ -2,3 +2,4 @@ pub mod ElementLemmas
 pub mod FirstOfLemmas
 pub mod MayBeginLemmas
 pub mod PlanLemmas
+pub mod SharedLemmas

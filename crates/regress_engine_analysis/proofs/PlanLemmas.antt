@@ -1,6 +1,6 @@
--- Facts that were read, and one fact more.
+-- Facts that were read.
 use Rattle.std.specs.Prelude.{slice_get, get_or, option_map}
-use Rattle.std.proofs.Common.{◌≡◌, ◌≢◌, ℕ, zero, suc, ◌<◌, ◌≤◌, ◌⊎◌, inl, inr, Bool, true, false, List, [], ◌∷◌, ◌++◌, length, map, Option, Some, None, refl, sym, ap, ◌∙◌, subst, arith, length-append}
+use Rattle.std.proofs.Common.{◌≡◌, ◌≢◌, ℕ, ◌<◌, ◌≤◌, ◌⊎◌, inl, inr, Bool, true, false, List, length, map, Option, Some, None, refl, sym, ap, ◌∙◌, subst, arith}
 use Rattle.std.proofs.lemmas.Bool.{cases_lt, eqb-true, true≢false}
 use Rattle.std.proofs.lemmas.Option.{slice_get-map, slice_get-get_or, slice_get_past}
 use Rattle.regress_meaning.specs.Inputs.{is_continuation}
@@ -106,31 +106,6 @@ known-read facts at d within = ap by_facts (slice_get-get_or facts at d within)
 
 pub known-past : (facts : List Facts) (at : ℕ) → length facts ≤ at → known_of facts at ≡ Nothing
 known-past facts at past = ap by_facts (slice_get_past facts at past)
-
--- ---- one more
-
-get-pushed : {A : Type 0} (xs : List A) (x : A) (k : ℕ) → k < length xs → slice_get (xs ++ x ∷ []) k ≡ slice_get xs k
-get-pushed [] x k within = absurd (omega arith)
-get-pushed (y ∷ xs) x zero within = refl
-get-pushed (y ∷ xs) x (suc k) within = get-pushed xs x k (omega arith)
-
-get-last : {A : Type 0} (xs : List A) (x : A) → slice_get (xs ++ x ∷ []) (length xs) ≡ Some x
-get-last [] x = refl
-get-last (y ∷ xs) x = get-last xs x
-
--- what is known of each address is so with one more
-pub so-more : (program : Program) (sets : List ByteBitmap) (facts : List Facts) (f : Facts)
-    → ((at : ℕ) → at < length facts → IsSo program sets at (known_of facts at)) → IsSo program sets (length facts) f.known
-    → (at : ℕ) → at < length (facts ++ f ∷ []) → IsSo program sets at (known_of (facts ++ f ∷ []) at)
-so-more program sets facts f so here at within = by_order (cases_lt at (length facts))
-  where
-    by_order : (at < length facts) ⊎ (length facts ≤ at) → IsSo program sets at (known_of (facts ++ f ∷ []) at)
-    by_order (inl less) = subst (IsSo program sets at) (ap by_facts (sym (get-pushed facts f at less))) (so at less)
-    by_order (inr more) =
-        let size = length-append facts (f ∷ []) in
-        let last : length facts ≡ at = omega (arith, within, size, more) in
-        subst (λ k. IsSo program sets k (known_of (facts ++ f ∷ []) k)) last
-        (subst (IsSo program sets (length facts)) (ap by_facts (sym (get-last facts f))) here)
 
 -- ---- what is known
 

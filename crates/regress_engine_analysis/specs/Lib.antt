@@ -1,3 +1,4 @@
 pub mod MayBegin
 pub mod Planned
+pub mod Shared
 pub mod Submatches

@@ -6,6 +6,7 @@ mod facts;
 mod first_bytes;
 mod plan;
 mod sets;
+mod shared;
 mod shortcuts;
 mod submatches;
 

@@ -1,13 +1,12 @@
 //! What is known of the addresses of a program.
 ghost use Rattle.std.specs.Prelude.{◌≡◌, ℕ, IfOk, not};
 ghost use Rattle.regress_engine_insn.specs.ProgramViews.{program_from};
-ghost use Rattle.regress_engine_analysis.specs.MayBegin.{may_begin_with};
-ghost use Rattle.regress_engine_analysis.specs.Planned.{ArePlanned, firsts, known_of};
 ghost use Rattle.regress_engine_analysis.specs.Submatches.{has_submatches};
 
-use crate::facts::{Facts, Known};
+use crate::facts::Known;
 use crate::first_bytes::first_bytes_by_address;
-use crate::shortcuts::known_at;
+use crate::shared::SharedFacts;
+use crate::shortcuts::add_known;
 use crate::submatches::has_submatches;
 use regress_engine_insn::Insn;
 use regress_front_nodes::BracketContents;
@@ -17,12 +16,16 @@ use std::alloc::{AllocError, Global};
 #[derive(Debug, Drop)]
 pub struct Plan {
     /// Of each address.
-    facts: Vec<Facts>,
+    facts: SharedFacts,
     /// Whether there are lookarounds or atomic groups.
     submatches: bool,
 }
 
 impl Plan {
+    ghost use Rattle.regress_engine_analysis.specs.MayBegin.{may_begin_with};
+    ghost use Rattle.regress_engine_analysis.specs.Planned.{ArePlanned, firsts, known_of};
+    ghost use Rattle.regress_engine_analysis.specs.Shared.{facts_of};
+
     /// The plan of a program: of its instructions and brackets, and whether it reads 16-bit units. It errs only where memory is
     /// refused.
     ///
@@ -35,16 +38,12 @@ impl Plan {
         brackets: &[BracketContents],
         units: bool,
     ) -> Result<Plan, AllocError>
-        ensures planned { (loops groups : ℕ) → IfOk result (λ plan. ArePlanned (program_from insns.now brackets.now loops groups units) plan.facts.items) }
+        ensures planned { (loops groups : ℕ) → IfOk result (λ plan. ArePlanned (program_from insns.now brackets.now loops groups units) (facts_of plan)) }
         ensures submatches { IfOk result (λ plan. plan.submatches ≡ has_submatches insns.now) }
     {
-        let mut facts = Vec::new(alloc);
-        let sets = first_bytes_by_address(alloc, insns, brackets)?;
-        for at in 0..sets.len() {
-            facts.push(Facts {
-                first: sets[at],
-                known: known_at(insns, &sets, at),
-            })?;
+        let mut facts = first_bytes_by_address(alloc, insns, brackets)?;
+        for at in 0..insns.len() {
+            add_known(insns, &mut facts, at)?;
         }
         Ok(Plan {
             facts,
@@ -59,9 +58,9 @@ impl Plan {
     /// ```
     #[inline(always)]
     pub fn cannot_begin_with(&self, at: usize, byte: u8) -> bool
-        ensures { result ≡ not (may_begin_with (firsts self.now.facts.items) at byte) }
+        ensures { result ≡ not (may_begin_with (firsts (facts_of self.now)) at byte) }
     {
-        at < self.facts.len() && !self.facts[at].first.contains(byte)
+        at < self.facts.len() && !self.facts.at(at).first.contains(byte)
     }
 
     /// What is known of an address besides its first bytes.
@@ -71,10 +70,10 @@ impl Plan {
     /// ```
     #[inline(always)]
     pub fn known(&self, at: usize) -> Known
-        ensures { result ≡ known_of self.now.facts.items at }
+        ensures { result ≡ known_of (facts_of self.now) at }
     {
         if at < self.facts.len() {
-            self.facts[at].known
+            self.facts.at(at).known
         } else {
             Known::Nothing
         }
@@ -97,11 +96,11 @@ impl Plan {
     /// let copy = plan.try_clone(alloc)?;
     /// ```
     pub fn try_clone(&self, alloc: Global) -> Result<Plan, AllocError>
-        ensures facts { IfOk result (λ plan. plan.facts.items ≡ self.now.facts.items) }
+        ensures facts { IfOk result (λ plan. facts_of plan ≡ facts_of self.now) }
         ensures submatches { IfOk result (λ plan. plan.submatches ≡ self.now.submatches) }
     {
         Ok(Plan {
-            facts: self.facts.to_vec(alloc)?,
+            facts: self.facts.try_clone(alloc)?,
             submatches: self.submatches,
         })
     }

@@ -1,8 +1,9 @@
 //! The bytes with which a match may begin that takes one character of a set first.
 //!
 //! Each set holds the bytes inside of characters too, since no character is read where one of them stands.
-ghost use Rattle.std.specs.Prelude.{◌≡◌, ◌^◌, ℕ, Bool, ◌<◌, ◌||◌, ◌&&◌, ◌==◌, true, not, nat_eq};
+ghost use Rattle.std.specs.Prelude.{◌≡◌, ◌+◌, ◌*◌, ◌^◌, ℕ, Bool, ◌<◌, ◌||◌, ◌&&◌, ◌==◌, true, not, nat_eq, nat_le, nat_lt};
 ghost use Rattle.regress_meaning.specs.Text.{holds};
+ghost use Rattle.regress_meaning.specs.Inputs.{is_continuation};
 ghost use Rattle.regress_meaning.specs.Meaning.{is_line_end};
 ghost use Rattle.regress_front_bytes.specs.Bitmaps.{ascii_bitmap_contains, byte_bitmap_contains};
 ghost use Rattle.regress_front_bytes.specs.ByteSets.{members};
@@ -56,15 +57,44 @@ pub(crate) fn unless_needed(body: ByteBitmap, rest: &ByteBitmap, least: usize) -
     either(body, rest)
 }
 
+/// How many bytes are in a row: those that one number of a set tells, so that a row is written at once.
+const ROW: u8 = 16;
+
+/// Adds a row of bytes, the first of which is a multiple of sixteen.
+fn add_row(bytes: &mut ByteBitmap, row: u8)
+    requires { row < 16 }
+    ensures { (b : ℕ) → byte_bitmap_contains bytes.new b ≡ byte_bitmap_contains bytes.old b || (nat_le (row * 16) b && nat_lt b (row * 16 + 16)) }
+{
+    for place in 0..ROW {
+        bytes.set(row * ROW + place);
+    }
+}
+
+/// The bytes that stand inside of characters.
+fn inside_of_characters() -> ByteBitmap
+    ensures { (b : ℕ) → byte_bitmap_contains result b ≡ is_continuation b }
+{
+    let mut bytes = ByteBitmap::default();
+    for row in 8..12_u8 {
+        add_row(&mut bytes, row);
+    }
+    bytes
+}
+
+/// All others.
+pub(crate) fn outside_of_characters() -> ByteBitmap
+    ensures { (b : ℕ) → b < 256 → byte_bitmap_contains result b ≡ not (is_continuation b) }
+{
+    let mut bytes = inside_of_characters();
+    bytes.bitnot();
+    bytes
+}
+
 /// The bytes that may stand where a character is read that begins with one of these.
 pub(crate) fn where_read(first: ByteBitmap) -> ByteBitmap
     ensures { (test : ℕ → Bool) → AreFirstOf test (byte_bitmap_contains first) → (b : ℕ) → byte_bitmap_contains result b ≡ may_lead test b }
 {
-    let mut bytes = first;
-    for byte in 0x80..0xC0_u8 {
-        bytes.set(byte);
-    }
-    bytes
+    either(first, &inside_of_characters())
 }
 
 /// Those of this character.
@@ -99,16 +129,28 @@ pub(crate) fn of_numbers(numbers: &[u8]) -> ByteBitmap
     where_read(first_of_numbers(numbers))
 }
 
+/// Adds the members of a set of ASCII that are in a row of bytes.
+fn add_members(bytes: &mut ByteBitmap, bitmap: &AsciiBitmap, row: u8)
+    requires { row < 8 }
+    ensures { (b : ℕ) → byte_bitmap_contains bytes.new b
+        ≡ byte_bitmap_contains bytes.old b || (nat_le (row * 16) b && nat_lt b (row * 16 + 16) && ascii_bitmap_contains bitmap.now b) }
+{
+    for place in 0..ROW {
+        let byte = row * ROW + place;
+        if bitmap.contains(byte) {
+            bytes.set(byte);
+        }
+    }
+}
+
 /// The members of a set of ASCII.
 fn members(bitmap: &AsciiBitmap) -> ByteBitmap
     ensures { (b : ℕ) → byte_bitmap_contains result b ≡ ascii_bitmap_contains bitmap.now b }
 {
     ascii_bitmap_holds_ascii(bitmap);
     let mut bytes = ByteBitmap::default();
-    for byte in 0..0x80_u8 {
-        if bitmap.contains(byte) {
-            bytes.set(byte);
-        }
+    for row in 0..8_u8 {
+        add_members(&mut bytes, bitmap, row);
     }
     bytes
 }

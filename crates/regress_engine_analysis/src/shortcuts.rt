@@ -1,13 +1,15 @@
 //! What is known of an address besides its first bytes.
-ghost use Rattle.std.specs.Prelude.{◌≡◌, ◌+◌, ◌^◌, ◌<◌, map, IfSome};
+ghost use Rattle.std.specs.Prelude.{◌≡◌, ◌+◌, ◌^◌, ℕ, ◌<◌, length, map, IfSome, OnOk};
 ghost use Rattle.regress_engine_insn.specs.Instructions.{Program, Stands, alt};
 ghost use Rattle.regress_engine_insn.specs.InsnViews.{instruction};
-ghost use Rattle.regress_engine_analysis.specs.Planned.{IsSo, is_class};
+ghost use Rattle.regress_engine_analysis.specs.Planned.{IsSo, firsts, is_class, known_of};
+ghost use Rattle.regress_engine_analysis.specs.Shared.{shared};
 
 use crate::apart::are_apart;
-use crate::facts::{Known, Turn};
+use crate::facts::{Facts, Known, Turn};
+use crate::shared::SharedFacts;
 use regress_engine_insn::Insn;
-use regress_front_bytes::ByteBitmap;
+use std::alloc::AllocError;
 
 /// Whether an instruction is a class.
 ///
@@ -23,10 +25,10 @@ pub fn is_class(insn: &Insn) -> bool
 
 /// The iterations that begin at an address with two ways, where the first one is a class and nothing else, and no match by the
 /// other one or from behind the repetition may begin as the class does.
-fn turn_at(insns: &[Insn], sets: &[ByteBitmap], at: usize, second: usize) -> Option<Turn>
+fn turn_at(insns: &[Insn], facts: &SharedFacts, at: usize, second: usize) -> Option<Turn>
     requires { at + 2 < 2 ^ 64 }
     ensures { IfSome result (λ turn. (program : Program) → program.instructions ≡ map instruction insns.now → Stands program at (alt second)
-        → IsSo program sets.now at (Known.Turn turn)) }
+        → IsSo program (firsts (shared facts.now)) at (Known.Turn turn)) }
 {
     if at + 2 >= insns.len() || !is_class(&insns[at + 1]) {
         return None;
@@ -49,7 +51,7 @@ fn turn_at(insns: &[Insn], sets: &[ByteBitmap], at: usize, second: usize) -> Opt
         return None;
     };
     let exit = repetition.exit as usize;
-    if !are_apart(sets, at + 1, second) || !are_apart(sets, at + 1, exit) {
+    if !are_apart(facts, at + 1, second) || !are_apart(facts, at + 1, exit) {
         return None;
     }
     Some(Turn {
@@ -59,19 +61,40 @@ fn turn_at(insns: &[Insn], sets: &[ByteBitmap], at: usize, second: usize) -> Opt
 }
 
 /// What is known of an address besides its first bytes, by all first bytes.
-pub(crate) fn known_at(insns: &[Insn], sets: &[ByteBitmap], at: usize) -> Known
+fn known_at(insns: &[Insn], facts: &SharedFacts, at: usize) -> Known
     requires { at + 2 < 2 ^ 64 }
-    ensures { (program : Program) → program.instructions ≡ map instruction insns.now → IsSo program sets.now at result }
+    ensures { (program : Program) → program.instructions ≡ map instruction insns.now → IsSo program (firsts (shared facts.now)) at result }
 {
     if at >= insns.len() {
         return Known::Nothing;
     }
     match &insns[at] {
-        Insn::Loop1CharBody { .. } if are_apart(sets, at + 1, at + 2) => Known::Possessive,
-        Insn::Alt { secondary } => match turn_at(insns, sets, at, *secondary as usize) {
+        Insn::Loop1CharBody { .. } if are_apart(facts, at + 1, at + 2) => Known::Possessive,
+        Insn::Alt { secondary } => match turn_at(insns, facts, at, *secondary as usize) {
             Some(turn) => Known::Turn(turn),
             None => Known::Nothing,
         },
         _ => Known::Nothing,
     }
+}
+
+/// Adds to the facts of an address what is known besides its first bytes, by all first bytes.
+pub(crate) fn add_known(
+    insns: &[Insn],
+    facts: &mut SharedFacts,
+    at: usize,
+) -> Result<(), AllocError>
+    requires inside { at < length (shared facts.old) }
+    requires fits { at + 2 < 2 ^ 64 }
+    ensures first { OnOk result (firsts (shared facts.new) ≡ firsts (shared facts.old)) }
+    ensures known { OnOk result ((program : Program) → program.instructions ≡ map instruction insns.now
+        → ((k : ℕ) → IsSo program (firsts (shared facts.old)) k (known_of (shared facts.old) k))
+        → (k : ℕ) → IsSo program (firsts (shared facts.old)) k (known_of (shared facts.new) k)) }
+{
+    let known = known_at(insns, facts, at);
+    if matches!(known, Known::Nothing) {
+        return Ok(());
+    }
+    let first = facts.at(at).first;
+    facts.put(at, Facts { first, known })
 }

@@ -1,7 +1,5 @@
 pub mod FillLemmas
 pub mod FillingWays
-pub mod WalkLemmas
-pub mod Through
-pub mod Ends
+pub mod MayWalk
 pub mod Walks
 pub mod Untold

@@ -1,12 +1,10 @@
 -- Where it is told that runs have no answer, the run from there has none.
-use Rattle.std.specs.Prelude.{is_some}
-use Rattle.std.proofs.Common.{◌≡◌, ℕ, ◌-◌, ◌^◌, ◌<◌, Bool, true, false, List, [], ◌∷◌, length, Option, None, Some, sym, ap, ◌∙◌, subst, arith}
+use Rattle.std.proofs.Common.{◌≡◌, ℕ, ◌<◌, true, false, [], ◌∷◌, length, None, Some, sym, ap, ◌∙◌, subst, arith}
 use Rattle.regress_meaning.specs.Meaning.{Forward}
 use Rattle.regress_engine_input.specs.Views.{View, AreOfKind, direction_of, input_of, reading_of}
 use Rattle.regress_engine_insn.specs.Instructions.{Program}
 use Rattle.regress_engine_runs.specs.Items.{Answers as EndsIn}
 use Rattle.regress_engine_runs.specs.Meets.{IsAtPlace}
-use Rattle.regress_engine_runs.specs.Runs.{Run}
 use Rattle.regress_engine_runs.specs.States.{Whole, first_state}
 use Rattle.regress_engine_search.specs.Search.{Suits}
 use Rattle.regress_engine_search.proofs.SkipLemmas.{place-lies}

@@ -1,8 +1,7 @@
 -- A walk along what is told to have an answer goes on, comes nearer to its end, and has its answer there.
-use Rattle.std.specs.Prelude.{nat_lt, nat_le, not}
+use Rattle.std.specs.Prelude.{not}
 use Rattle.std.proofs.Common.{◌≡◌, inl, inr, ℕ, suc, ◌+◌, ◌-◌, ◌*◌, ◌<◌, ◌≤◌, ◌&&◌, Bool, true, false, List, [], ◌∷◌, length, Option, None, Some, if◌then◌else◌, refl, sym, ap, ◌∙◌, subst, arith}
 use Rattle.std.proofs.lemmas.Bool.{and_parts, ltb-true}
-use Rattle.std.proofs.lemmas.Bool.Decides.{nat_tests}
 use Rattle.std.proofs.lemmas.Nat.{mul-le}
 use Rattle.std.proofs.Math.Nat.{suc-mul}
 use Rattle.regress_meaning.specs.Meaning.{Direction, Forward}
@@ -24,21 +23,23 @@ use Rattle.regress_engine_search.proofs.SkipLemmas.{place-lies}
 use Rattle.regress_engine_memory.specs.Flow.{Flow}
 use Rattle.regress_engine_memory.proofs.Onward.{room-less}
 use Rattle.regress_engine_linear.specs.Ranks.{AreRunning, Inside, IsBeyond, Lowers, asked_less}
-use Rattle.regress_engine_linear.specs.RankTables.{Heights, forward_at, outside_at, rank_at, ranking_of}
+use Rattle.regress_engine_linear.specs.RankTables.{Heights, forward_at, level_at, outside_at, rank_at, ranking_of}
 use Rattle.regress_engine_linear.specs.Answered.{Ends, IsAnswered, ReadsAlong, is_single}
 use Rattle.regress_engine_answers.specs.AnswerTables.{told_by}
-use Rattle.regress_engine_linear.specs.Linear.{AreLoopFree, HaveRanks, leads_through}
-use Rattle.regress_engine_answers.specs.Walked.{AreExitsTold, GoesOutside, IsInside, IsOnWay, MayWalk, Walk, Walks, are_atomic, entered, far, frame, goes, inside_forward, is_entered, led, marked, offset_behind, returns, station, to_end}
+use Rattle.regress_engine_linear.specs.Linear.{AreLoopFree, HaveRanks, is_visited_once}
+use Rattle.regress_engine_ways.specs.Ways.{IsOnWay, is_entered, led, marked, station}
+use Rattle.regress_engine_answers.specs.Walked.{AreExitsTold, GoesOutside, IsInside, MayWalk, Walk, Walks, are_atomic, entered, far, frame, goes, inside_forward, offset_behind, returns, to_end}
 use Rattle.regress_engine_answers.specs.declared.answers.Answers.{Answers}
 use Rattle.regress_engine_answers.specs.declared.walker.Frame.{Frame}
-use Rattle.regress_engine_answers.specs.declared.walker.Station.{Station}
+use Rattle.regress_engine_ways.specs.declared.station.Station.{Station}
 use Rattle.regress_engine_linear.proofs.EndsBeyond.{atomic-lower}
 use Rattle.regress_engine_linear.proofs.PassageLemmas.{fits-inside}
-use Rattle.regress_engine_linear.proofs.MixedLemmas.{mixed-length, mixed-outside, mixed-same}
+use Rattle.regress_engine_search.proofs.MixedLemmas.{mixed-length, mixed-outside, mixed-same}
 use Rattle.regress_engine_linear.proofs.FromStart.{running-first}
 use Rattle.regress_engine_linear.proofs.WorkLemmas.{rank-low}
-use Rattle.regress_engine_answers.proofs.Through.{kept-on, through}
-use Rattle.regress_engine_answers.proofs.WalkLemmas.{atomic-into, place-here, ready-here, at-goal, ends-way, exits-told-of, look-into, on-way, told-there}
+use Rattle.regress_engine_ways.proofs.Through.{kept-on, through}
+use Rattle.regress_engine_ways.proofs.OnWay.{atomic-into, place-here, ready-here, at-goal, ends-way, look-into, on-way, told-there}
+use Rattle.regress_engine_answers.proofs.MayWalk.{exits-told-of}
 
 station-is : (at o : ℕ) (x : Station) → Some (station at o) ≡ Some x → station at o ≡ x
 station-is at o x e = cc
@@ -63,8 +64,8 @@ module _ (flow : Flow) (h : Heights) (v : View) (all : AreOfKind v.kind v.units)
       → IsAnswered flow (ranking_of h) program v dir at o (told_by a at o)
   right dir at o there low way anywhere = subst (λ d. IsAnswered flow (ranking_of h) program v d at o (told_by a at o)) way (may.right at o there low)
 
-  past : (dir : Direction) (s u : Whole) → Anywhere s.at s.offset → IsBeyond (ranking_of h) last dir s u → Anywhere u.at u.offset
-  past dir s u anywhere beyond = tt
+  past : (dir : Direction) (s u : Whole) → Anywhere s.at s.offset → IsBeyond (ranking_of h) last dir s u → level_at h u.at ≡ level_at h s.at → Anywhere u.at u.offset
+  past dir s u anywhere beyond level = tt
 
   abbrev Way : (forward : Bool) → Whole → (at o : ℕ) → List Marks → Type 0
   Way forward w at o gs = IsOnWay flow h program v (direction_of forward) w at o gs
@@ -125,25 +126,25 @@ module _ (flow : Flow) (h : Heights) (v : View) (all : AreOfKind v.kind v.units)
       → Goes start frames forward x.at x.offset (marked (direction_of forward) i o gs) × (left frames x.at x.offset < left frames at o)
   walk-on start [] false at o gs hs (is, (w, way, ends)) i here out x e = absurd (cc is)
   walk-on start [] true at o gs hs (is, (w, way, ends)) i here out x e =
-      let (on, ls, beyond, same) = on-way flow h v all program suits may.pass Forward (told_by a) Anywhere (right Forward) (past Forward) w at o gs way tt hs i here out x e in (
+      let (on, ls, beyond, same, level) = on-way flow h v all program suits may.pass Forward (told_by a) Anywhere (right Forward) (past Forward) w at o gs way tt hs i here out x e in (
         (refl, (w, on, ends)),
         nearer (whole at o way.loops gs) (whole x.at x.offset ls (marked Forward i o gs)) beyond on.there,
       )
   walk-on start (f ∷ fs) forward at o gs hs (w, before, way, inside, outside, rest) i here out x e =
       let dir = direction_of forward in
       let leads = inside.free.leads at i inside.after inside.ahead here in
-      let (more, less) = through inside.nests inside.first inside.last f.continuation (told_by a) program (input_of v) dir hs at o x i leads e in
-      let (on, ls, beyond, same) = on-way flow h v all program suits may.pass dir (told_by a) Anywhere (right dir) (past dir) w at o gs way tt hs i here out x e in
+      let (more, less) = through inside.singles inside.first inside.last f.continuation (told_by a) program (input_of v) dir hs at o x i leads e in
+      let (on, ls, beyond, same, level) = on-way flow h v all program suits may.pass dir (told_by a) Anywhere (right dir) (past dir) w at o gs way tt hs i here out x e in
       let after = inside.after in
       let still : IsInside program f.continuation x.at (marked dir i o gs) before = record {
         look = inside.look;
         first = inside.first;
         last = inside.last;
-        nests = inside.nests;
+        singles = inside.singles;
         free = inside.free;
         after = omega (arith, after, more);
         ahead = less;
-        kept = kept-on inside.nests inside.first inside.last f.continuation dir at o i gs before leads inside.kept;
+        kept = kept-on inside.singles inside.first inside.last f.continuation dir at o i gs before leads inside.kept;
       } in
       let outwards : GoesOutside h f forward x.at = λ away. ((outside away).0, same ∙ (outside away).1) in (
         (w, before, on, still, outwards, rest),
@@ -188,13 +189,13 @@ module _ (flow : Flow) (h : Heights) (v : View) (all : AreOfKind v.kind v.units)
             let same = ap (λ (b : Bool). if b then near continuation o else far h v fs f.continuation f.offset + (f.continuation - continuation)) e in
             omega (arith, less, some, same)
 
-    walk-into : (frames : List Frame) → Goes start frames forward at o gs → (nests : Bool) → AreLoopFree program nests at low high continuation → HaveRoom kind
+    walk-into : (frames : List Frame) → Goes start frames forward at o gs → (singles : Bool) → AreLoopFree program singles at low high continuation → HaveRoom kind
         → outside_at h continuation ≡ outside_at h at → (kind ≡ atomic → outside_at h (suc at) ≡ continuation) → ((w : Whole) → Way forward w at o gs → Into w)
         → Goes start (new ∷ frames) (inside_forward kind forward) (suc at) o gs × (left (new ∷ frames) (suc at) o < left frames at o)
-    walk-into frames walks nests free ranks same leads-out into = by_frames frames walks
+    walk-into frames walks singles free ranks same leads-out into = by_frames frames walks
       where
         inside-now : IsInside program continuation (suc at) gs gs
-        inside-now = record { look = at; first = low; last = high; nests = nests; free = free; after = omega arith; ahead = free.some; kept = (refl, λ k out. refl) }
+        inside-now = record { look = at; first = low; last = high; singles = singles; free = free; after = omega arith; ahead = free.some; kept = (refl, λ k out. refl) }
 
         outside-new : (kind : Submatch) → (kind ≡ atomic → outside_at h (suc at) ≡ continuation)
             → GoesOutside h (frame continuation o forward (returns kind)) (inside_forward kind forward) (suc at)
@@ -215,7 +216,7 @@ module _ (flow : Flow) (h : Heights) (v : View) (all : AreOfKind v.kind v.units)
         by_frames (f ∷ fs) (w, before, way, inside, outside, rest) =
             let (t, inner, outer) = into w way in
             let leads = inside.free.leads at (code.submatch kind low high continuation) inside.after inside.ahead here in
-            let within = fits-inside inside.nests kind at low high continuation inside.first inside.last f.continuation leads in
+            let within = fits-inside inside.singles kind at low high continuation inside.first inside.last f.continuation leads in
             let (less, from, to) = within in
             let some = free.some in
             let after = inside.after in
@@ -223,7 +224,7 @@ module _ (flow : Flow) (h : Heights) (v : View) (all : AreOfKind v.kind v.units)
               look = inside.look;
               first = inside.first;
               last = inside.last;
-              nests = inside.nests;
+              singles = inside.singles;
               free = inside.free;
               after = omega (arith, after, some);
               ahead = less;
@@ -299,7 +300,7 @@ module _ (flow : Flow) (h : Heights) (v : View) (all : AreOfKind v.kind v.units)
       into (code.submatch (lookaround false backward) low high continuation) there is =
           let (free, ranks) = may.pass.leaves at low high continuation (lookaround false backward) there (ltb-true low high is) in
           let lower = (ranked-there (lookaround false backward) low high continuation there).0 in
-          walk-into start forward at o gs (lookaround false backward) low high continuation there frames walks true free ranks lower.same (λ e. absurd (cc e)) (λ w way.
+          walk-into start forward at o gs (lookaround false backward) low high continuation there frames walks (is_visited_once program at) free ranks lower.same (λ e. absurd (cc e)) (λ w way.
           let (t, inner, outer, anywhere) = look-into flow h v all program suits may.pass dir (told_by a) Anywhere (right dir) (past dir) w at o gs way tt gs backward low high continuation there in
           (t, inner, outer))
       into (code.submatch (lookaround true backward) low high continuation) there is = absurd (cc is)
@@ -369,28 +370,26 @@ module _ (flow : Flow) (h : Heights) (v : View) (all : AreOfKind v.kind v.units)
   -- what is told of the exits of a one-character loop that stands there is so
   pub walk-exits : (start : ℕ) (frames : List Frame) (forward : Bool) (at o : ℕ) (gs hs : List Marks) → Goes start frames forward at o gs → (i : Instruction) → Stands program at i
       → (j : Instruction) → is_single i ≡ true → Stands program (at + 1) j → AreExitsTold program v (direction_of forward) hs a j at (at + 2)
-  walk-exits start (f ∷ fs) forward at o gs hs (w, before, way, inside, outside, rest) i here j single stands =
-      absurd (never i (inside.free.leads at i inside.after inside.ahead here) single)
+  walk-exits start frames forward at o gs hs walks i here j single stands = by_kind i here single
     where
-      never : (i : Instruction) → leads_through inside.nests inside.first inside.last f.continuation at i ≡ true → is_single i ≡ true → ⊥
-      never (code.single_loop least most greedy) leads is = cc leads
-      never _ leads is = cc is
-  walk-exits start [] false at o gs hs (is, (w, way, ends)) i here j single stands = absurd (cc is)
-  walk-exits start [] true at o gs hs (is, (w, way, ends)) i here j single stands = by_kind i here single
-    where
-      by_way : (b : Bool) → direction_of b ≡ Forward → b ≡ true
-      by_way true e = refl
-      by_way false e = absurd (cc e)
+      by_way : (b c : Bool) → direction_of b ≡ direction_of c → b ≡ c
+      by_way true true e = refl
+      by_way false false e = refl
+      by_way true false e = absurd (cc e)
+      by_way false true e = absurd (cc e)
 
-      read-forward : forward_at h at ≡ true
-      read-forward = by_way (forward_at h at) way.running.way
+      on : (w : Whole) × Way forward w at o gs
+      on = walk-way start frames forward at o gs walks
 
-      by_kind : (i : Instruction) → Stands program at i → is_single i ≡ true → AreExitsTold program v Forward hs a j at (at + 2)
+      read : forward_at h at ≡ forward
+      read = by_way (forward_at h at) forward on.1.running.way
+
+      by_kind : (i : Instruction) → Stands program at i → is_single i ≡ true → AreExitsTold program v (direction_of forward) hs a j at (at + 2)
       by_kind (code.single_loop least most greedy) there e =
           let (k, there', takes, order) = suits.closed at (code.single_loop least most greedy) there in
           let one : at + 1 ≡ suc at = omega arith in
           let same : k ≡ j = one_stands program (input_of v) (suc at) k j there' (subst (λ b. Stands program b j) one stands) in
-          exits-told-of flow h program v a at (λ q lies. may.exits at q way.there read-forward lies) all true read-forward least most greedy j there (ap takes_character (sym same) ∙ takes) stands hs
+          exits-told-of flow h program v a at (λ q lies. may.exits at q on.1.there lies) all forward read least most greedy j there (ap takes_character (sym same) ∙ takes) stands hs
       by_kind _ there e = absurd (cc e)
 
   -- at its begin it is on its way

@@ -1,4 +1,4 @@
--- What a table of answers tells while it is filled: offset by offset, and at each offset by rank.
+-- What a table of answers tells while it is filled: level by level, the deepest first, and of each offset by offset, and at each offset by rank.
 use Rattle.std.specs.Prelude.{◌≡◌, ℕ, suc, ◌<◌, ◌≤◌, ◌⊎◌, Bool, true, false, length}
 use Rattle.regress_meaning.specs.Meaning.{Direction}
 use Rattle.regress_engine_input.specs.Views.{View, direction_of, reading_of}
@@ -9,7 +9,8 @@ use Rattle.regress_engine_runs.specs.Runs.{room}
 use Rattle.regress_engine_memory.specs.Flow.{Flow}
 use Rattle.regress_engine_linear.specs.Answered.{IsAnswered, one_beyond}
 use Rattle.regress_engine_answers.specs.AnswerTables.{exits_by, told_by}
-use Rattle.regress_engine_linear.specs.RankTables.{Heights, forward_at, rank_at, ranking_of}
+use Rattle.regress_engine_linear.specs.RankTables.{Heights, forward_at, index_at, ranking_of}
+use Rattle.regress_engine_linear.specs.declared.levels.Level.{Level}
 use Rattle.regress_engine_answers.specs.declared.answers.Answers.{Answers}
 
 -- Of what reads characters a table tells at places alone.
@@ -30,17 +31,24 @@ module _ (flow : Flow) (h : Heights) (program : Program) (v : View) where
   IsExitRight a at o = (least most : ℕ) (greedy : Bool) (body : Instruction) → Stands program at (code.single_loop least most greedy) → Stands program (suc at) body
       → IsAtPlace (reading_of v) o → exits_by a at o ≡ one_beyond (told_by a) program v (way_of at) at body o
 
-  -- further on in the text than an offset, or there and ranked lower than so much
-  abbrev pub IsPast : (forward : Bool) → (k o : ℕ) → (at q : ℕ) → Type 0
-  IsPast forward k o at q = (room (length v.units) (direction_of forward) q < room (length v.units) (direction_of forward) o) ⊎ ((q ≡ o) × (rank_at h at < k))
+  -- of a deeper level; or of this, further on in the text than an offset, or there and before an index of the order
+  abbrev pub IsPast : Level → (k o : ℕ) → (at q : ℕ) → Type 0
+  IsPast l k o at q = (index_at h at < l.from)
+      ⊎ ((index_at h at < l.to) × ((room (length v.units) (direction_of l.forward) q < room (length v.units) (direction_of l.forward) o) ⊎ ((q ≡ o) × (index_at h at < k))))
 
-  -- All that is read forward, or backward, is told of as far as it is past, and of the rest nothing; what is read backward is told of first.
-  pub record IsFilled (a : Answers) (forward : Bool) (k o : ℕ) : Type 0 where
-    pub right : (at q : ℕ) → at < length h.ranks → forward_at h at ≡ forward → q ≤ length v.units → IsPast forward k o at q → IsRight a at q × IsExitRight a at q
-    pub fresh : (at q : ℕ) → forward_at h at ≡ forward → q ≤ length v.units → (IsPast forward k o at q → ⊥) → (told_by a at q ≡ false) × (exits_by a at q ≡ false)
-    pub later : forward ≡ false → (at q : ℕ) → forward_at h at ≡ true → (told_by a at q ≡ false) × (exits_by a at q ≡ false)
-    pub other : forward ≡ true → (at q : ℕ) → at < length h.ranks → forward_at h at ≡ false → q ≤ length v.units → IsRight a at q
+  -- Of all that is past it is told what is so, and of the rest nothing.
+  pub record IsFilledBy (Past : (at q : ℕ) → Type 0) (a : Answers) : Type 0 where
+    pub right : (at q : ℕ) → at < length h.ranks → q ≤ length v.units → Past at q → IsRight a at q × IsExitRight a at q
+    pub fresh : (at q : ℕ) → q ≤ length v.units → (Past at q → ⊥) → (told_by a at q ≡ false) × (exits_by a at q ≡ false)
     pub spots : IsPlaced program v a
+
+  -- it is filled so far: up to an index at an offset
+  abbrev pub IsFilled : Answers → Level → (k o : ℕ) → Type 0
+  IsFilled a l k o = IsFilledBy (IsPast l k o) a
+
+  -- and at each offset up to an index
+  abbrev pub IsFilledTo : Answers → (k : ℕ) → Type 0
+  IsFilledTo a k = IsFilledBy (λ at q. index_at h at < k) a
 
   -- all that a table tells is so
   abbrev pub AreRight : Answers → Type 0

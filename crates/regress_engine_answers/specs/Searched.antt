@@ -1,5 +1,5 @@
 -- What a search by a table of answers stands on.
-use Rattle.std.specs.Prelude.{◌≡◌, ◌+◌, ◌*◌, ◌≤◌, ℕ, suc, Bool, true, length, map, Option, Some, None}
+use Rattle.std.specs.Prelude.{◌≡◌, ◌+◌, ◌*◌, ◌≤◌, ℕ, suc, true, length, map, Option, Some, None}
 use Rattle.regress_meaning.specs.Meaning.{Forward}
 use Rattle.regress_engine_input.specs.Views.{View}
 use Rattle.regress_engine_insn.specs.Instructions.{Instruction, Program}
@@ -7,10 +7,10 @@ use Rattle.regress_engine_code.specs.Standing.{program_of}
 use Rattle.regress_engine_runs.specs.Runs.{room}
 use Rattle.regress_engine_search.specs.Ready.{IsReady, is_simple}
 use Rattle.regress_engine_search.specs.StateViews.{marks_of}
-use Rattle.regress_engine_linear.specs.Linear.{IsLinear}
 use Rattle.regress_engine_linear.specs.LinearViews.{flow_in, heights_in}
 use Rattle.regress_engine_linear.specs.declared.testing.LinearTable.{LinearTable}
-use Rattle.regress_engine_answers.specs.Filled.{AreRight, IsFilled}
+use Rattle.regress_engine_linear.specs.declared.levels.Level.{Level}
+use Rattle.regress_engine_answers.specs.Filled.{AreRight, IsFilled, IsFilledTo}
 use Rattle.regress_engine_answers.specs.Walked.{AreExitsKnown}
 use Rattle.regress_engine_answers.specs.declared.answers.Answering.{Answering}
 use Rattle.regress_engine_answers.specs.declared.answers.Answers.{Answers}
@@ -22,7 +22,7 @@ pub record IsTold (table : LinearTable) (program : Program) (v : View) (t : Text
   pub exits : AreExitsKnown (flow_in table) (heights_in table) program v t.answers
   pub blank : length t.blank.items ≡ program.groups
 
--- to work out what is told of a text takes two steps for each address at each offset, one for each direction
+-- to work out what is told of a text takes at most two steps for each address at each offset
 abbrev pub fill_steps : LinearTable → View → ℕ
 fill_steps table v = 2 * (suc (length v.units) * length (heights_in table).order)
 
@@ -39,8 +39,12 @@ StepsTo table v before after (Some (start, end)) =
     ≤ before + room (length v.units) Forward start * length (heights_in table).order + length (heights_in table).order
 
 -- what is told while a table is filled is so, by the ranks of its program, in the text that is worked out
-abbrev pub IsFilledIn : {I : Type 0} → (I → View) → Answering I → LinearTable → Answers → (forward : Bool) → (rank offset : ℕ) → Type 0
-IsFilledIn view x table a forward rank offset = IsFilled (flow_in table) (heights_in table) (program_of x.program.now) (view x.input) a forward rank offset
+abbrev pub IsFilledIn : {I : Type 0} → (I → View) → Answering I → LinearTable → Answers → Level → (index offset : ℕ) → Type 0
+IsFilledIn view x table a level index offset = IsFilled (flow_in table) (heights_in table) (program_of x.program.now) (view x.input) a level index offset
+
+-- so it is of all deeper levels, up to an index of the order
+abbrev pub IsFilledToIn : {I : Type 0} → (I → View) → Answering I → LinearTable → Answers → (index : ℕ) → Type 0
+IsFilledToIn view x table a index = IsFilledTo (flow_in table) (heights_in table) (program_of x.program.now) (view x.input) a index
 
 -- an instruction that changes nothing but the offset is ready to be done at one
 abbrev pub IsReadyIn : {I : Type 0} → (I → View) → Answering I → Instruction → (offset : ℕ) → Type 0

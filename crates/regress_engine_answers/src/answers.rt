@@ -3,8 +3,7 @@ ghost use Rattle.std.specs.Prelude.{◌≡◌, ◌+◌, ◌^◌, ◌<◌, ◌≤
 ghost use Rattle.regress_engine_code.specs.Standing.{program_of};
 ghost use Rattle.regress_engine_input.specs.Views.{direction_of, input_of, reading_of};
 ghost use Rattle.regress_engine_insn.specs.InsnViews.{instruction};
-ghost use Rattle.regress_engine_insn.specs.Instructions.{Instruction, Stands, submatch};
-ghost use Rattle.regress_front_nodes.specs.Trees.{atomic};
+ghost use Rattle.regress_engine_insn.specs.Instructions.{Instruction, Stands};
 ghost use Rattle.regress_engine_runs.specs.Meets.{IsAtPlace, reads_character, referred};
 ghost use Rattle.regress_engine_runs.specs.Runs.{advance, after_times, counted, fields_of, one_by_one};
 ghost use Rattle.regress_engine_search.specs.Search.{Suits};
@@ -13,12 +12,13 @@ ghost use Rattle.regress_engine_linear.specs.Answered.{again, behind, exits_at, 
 ghost use Rattle.regress_engine_answers.specs.AnswerTables.{exits_by, in_set, told_by};
 ghost use Rattle.regress_engine_answers.specs.Filled.{IsPlaced};
 ghost use Rattle.regress_engine_answers.specs.Searched.{IsReadyIn};
-ghost use Rattle.regress_engine_answers.specs.Walked.{contents_end, value_at};
+ghost use Rattle.regress_engine_ways.specs.Ways.{value_at};
+ghost use Rattle.regress_engine_linear.specs.LinearViews.{heights_in};
 
-use crate::walker::Station;
 use regress_engine_advance::{advance, after_times};
 use regress_engine_code::CompiledRegex;
 use regress_engine_insn::Insn;
+use regress_engine_linear::LinearTable;
 use regress_engine_memory::Bits;
 use regress_engine_search::{ExecutorInput, Shown};
 use regress_front_core::GroupData;
@@ -141,72 +141,11 @@ impl<'a, Input: ExecutorInput> Answering<'a, Input> {
         }
     }
 
-    /// Where the preferred way through contents ends, from an address and an offset on along what is told, in at most so many steps. No
-    /// one-character loop is passed. What reads characters is told of at places alone.
-    fn contents_end(
-        &self,
-        answers: &Answers,
-        forward: bool,
-        most: usize,
-        at: usize,
-        offset: usize,
-    ) -> Option<usize>
-        requires suits { Suits (program_of self.now.program.now) (Input.view self.now.input) }
-        requires groups { length self.now.groups.now ≡ (program_of self.now.program.now).groups }
-        requires calm { (b : ℕ) → (i : Instruction) → Stands (program_of self.now.program.now) b i → referred i ≡ None }
-        requires placed { IsPlaced (program_of self.now.program.now) (Input.view self.now.input) answers.now }
-        ensures { result ≡ contents_end (told_by answers.now) (program_of self.now.program.now) (input_of (Input.view self.now.input)) (direction_of forward)
-            (map marks_of self.now.groups.now) most at offset }
-    {
-        let mut here = Station { at, offset };
-        let mut left = most;
-        'way: while left > 0 {
-            if !answers.are_told(here.at, here.offset) {
-                return None;
-            }
-            let insn = self.instruction(here.at);
-            match insn {
-                Insn::Goal => return Some(here.offset),
-                Insn::Loop1CharBody { .. } => return None,
-                _ => {}
-            }
-            let Some(next) = self.led_on(answers, insn, forward, here.at, here.offset) else {
-                return None;
-            };
-            here = next;
-            left -= 1;
-        }
-        None
-    }
-
-    /// Whether runs from an atomic group and an offset have an answer, where it is told of its contents, and of where it goes on.
-    fn atomic_answer(
-        &self,
-        answers: &Answers,
-        continuation: usize,
-        forward: bool,
-        at: usize,
-        offset: usize,
-    ) -> bool
-        requires suits { Suits (program_of self.now.program.now) (Input.view self.now.input) }
-        requires groups { length self.now.groups.now ≡ (program_of self.now.program.now).groups }
-        requires calm { (b : ℕ) → (i : Instruction) → Stands (program_of self.now.program.now) b i → referred i ≡ None }
-        requires placed { IsPlaced (program_of self.now.program.now) (Input.view self.now.input) answers.now }
-        requires room { at + 1 < 2 ^ 64 }
-        ensures { (first last : ℕ) → result ≡ value_at (told_by answers.now) (program_of self.now.program.now) (input_of (Input.view self.now.input))
-            (direction_of forward) (map marks_of self.now.groups.now) (submatch atomic first last continuation) at offset }
-    {
-        let most = continuation.saturating_sub(at);
-        match self.contents_end(answers, forward, most, at + 1, offset) {
-            Some(end) => answers.are_told(continuation, end),
-            None => false,
-        }
-    }
-
     /// Whether runs from an address and an offset have an answer, where it is told of those to which its instruction leads. The
     /// instruction is no one-character loop.
     pub(crate) fn answer(
         &self,
+        table: &LinearTable,
         answers: &Answers,
         insn: &Insn,
         forward: bool,
@@ -221,14 +160,14 @@ impl<'a, Input: ExecutorInput> Answering<'a, Input> {
         requires calm { (b : ℕ) → (i : Instruction) → Stands (program_of self.now.program.now) b i → referred i ≡ None }
         requires unreferring { referred (instruction insn.now) ≡ None }
         requires placed { IsPlaced (program_of self.now.program.now) (Input.view self.now.input) answers.now }
-        ensures { result ≡ value_at (told_by answers.now) (program_of self.now.program.now) (input_of (Input.view self.now.input)) (direction_of forward)
+        ensures { result ≡ value_at (heights_in table.now) (told_by answers.now) (program_of self.now.program.now) (input_of (Input.view self.now.input)) (direction_of forward)
             (map marks_of self.now.groups.now) (instruction insn.now) at offset }
     {
         match insn {
             Insn::Goal => true,
             Insn::JustFail | Insn::Loop1CharBody { .. } => false,
             Insn::Atomic { continuation, .. } => {
-                self.atomic_answer(answers, *continuation as usize, forward, at, offset)
+                self.atomic_answer(table, answers, *continuation as usize, forward, at, offset)
             }
             Insn::Lookahead {
                 negate,
@@ -274,6 +213,7 @@ impl<'a, Input: ExecutorInput> Answering<'a, Input> {
     /// tells it. It errs where memory is refused, and then no more is told.
     pub(crate) fn work_out(
         &self,
+        table: &LinearTable,
         answers: &mut Answers,
         insn: &Insn,
         forward: bool,
@@ -292,10 +232,10 @@ impl<'a, Input: ExecutorInput> Answering<'a, Input> {
         ensures count { length answers.new.offsets.items ≡ length answers.old.offsets.items }
         ensures exits { answers.new.exits ≡ answers.old.exits }
         ensures told { OnOk result ((a o : ℕ) → told_by answers.new a o ≡ (told_by answers.old a o || (((a == at) && (offset == o))
-            && value_at (told_by answers.old) (program_of self.now.program.now) (input_of (Input.view self.now.input)) (direction_of forward)
+            && value_at (heights_in table.now) (told_by answers.old) (program_of self.now.program.now) (input_of (Input.view self.now.input)) (direction_of forward)
             (map marks_of self.now.groups.now) (instruction insn.now) at offset))) }
     {
-        let has = self.answer(answers, insn, forward, at, offset);
+        let has = self.answer(table, answers, insn, forward, at, offset);
         insert_if(&mut answers.offsets, has, at, offset)
     }
 
@@ -458,6 +398,7 @@ impl<'a, Input: ExecutorInput> Answering<'a, Input> {
     /// at each place further on. It errs where memory is refused.
     pub(crate) fn work_at(
         &self,
+        table: &LinearTable,
         answers: &mut Answers,
         forward: bool,
         at: usize,
@@ -477,7 +418,7 @@ impl<'a, Input: ExecutorInput> Answering<'a, Input> {
         ensures count { length answers.new.offsets.items ≡ length answers.old.offsets.items }
         ensures count_exits { length answers.new.exits.items ≡ length answers.old.exits.items }
         ensures told { OnOk result ((i : Instruction) → Stands (program_of self.now.program.now) at i → (a o : ℕ) → told_by answers.new a o
-            ≡ (told_by answers.old a o || (((a == at) && (offset == o)) && value_at (told_by answers.old) (program_of self.now.program.now)
+            ≡ (told_by answers.old a o || (((a == at) && (offset == o)) && value_at (heights_in table.now) (told_by answers.old) (program_of self.now.program.now)
             (input_of (Input.view self.now.input)) (direction_of forward) (map marks_of self.now.groups.now) i at offset))) }
         ensures exits { OnOk result ((i : Instruction) → Stands (program_of self.now.program.now) at i → (a o : ℕ) → exits_by answers.new a o
             ≡ (exits_by answers.old a o || (((a == at) && (offset == o)) && exits_value_at (told_by answers.old) (exits_by answers.old) (program_of self.now.program.now)
@@ -493,7 +434,7 @@ impl<'a, Input: ExecutorInput> Answering<'a, Input> {
                 let body = self.instruction(at + 1);
                 self.work_out_single(answers, body, *min_iters, *max_iters, forward, at, offset)
             }
-            _ => self.work_out(answers, insn, forward, at, offset),
+            _ => self.work_out(table, answers, insn, forward, at, offset),
         }
     }
 }

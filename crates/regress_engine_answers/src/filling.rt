@@ -1,4 +1,4 @@
-//! How a table of answers is filled: offset by offset, and at each offset by rank.
+//! How a table of answers is filled: level by level, of each offset by offset, and at each offset by rank.
 ghost use Rattle.std.specs.Prelude.{◌≡◌, ℕ, ◌+◌, ◌-◌, ◌*◌, ◌^◌, ◌<◌, ◌≤◌, suc, false, true, IfOk, OnOk, length, slice_get};
 ghost use Rattle.regress_engine_code.specs.Standing.{program_of};
 ghost use Rattle.regress_engine_input.specs.Views.{direction_of, reading_of};
@@ -7,16 +7,17 @@ ghost use Rattle.regress_engine_runs.specs.Meets.{IsAtPlace, reads_character};
 ghost use Rattle.regress_engine_search.specs.Search.{Suits};
 ghost use Rattle.regress_engine_answers.specs.AnswerTables.{IsSized, exits_by, in_set, told_by};
 ghost use Rattle.regress_engine_answers.specs.Filled.{AreRight};
-ghost use Rattle.regress_engine_linear.specs.Places.{IsAwaited, IsBehind, IsNextPlace, offset_of};
-ghost use Rattle.regress_engine_answers.specs.Searched.{IsFilledIn, fill_steps};
+ghost use Rattle.regress_engine_search.specs.Places.{IsAwaited, IsBehind, IsNextPlace};
+ghost use Rattle.regress_engine_answers.specs.Searched.{IsFilledIn, IsFilledToIn, fill_steps};
 ghost use Rattle.regress_engine_answers.specs.Walked.{AreExitsKnown};
+ghost use Rattle.regress_engine_linear.specs.Levels.{IsLevel};
 ghost use Rattle.regress_engine_linear.specs.Linear.{IsLinear, too_long};
 ghost use Rattle.regress_engine_linear.specs.LinearViews.{flow_in, heights_in};
 
 use crate::answers::{Answering, Answers};
 use regress_engine_advance::beside;
 use regress_engine_insn::Insn;
-use regress_engine_linear::LinearTable;
+use regress_engine_linear::{Level, LinearTable};
 use regress_engine_memory::Bits;
 use regress_engine_search::ExecutorInput;
 use std::alloc::{AllocError, Global};
@@ -73,46 +74,45 @@ impl Answers {
 }
 
 impl<'a, Input: ExecutorInput> Answering<'a, Input> {
-    /// Works out the address of a rank at an offset, if it is read so. What reads characters is worked out at places alone: no run comes to
-    /// it elsewhere.
+    /// Works out the address at an index of the order, at an offset. What reads characters is worked out at places alone: no run comes to it
+    /// elsewhere.
     fn fill_at(
         &self,
         table: &LinearTable,
         answers: &mut Answers,
-        forward: bool,
+        level: Level,
         is_place: bool,
-        rank: usize,
+        index: usize,
         offset: usize,
     ) -> Result<(), AllocError>
         requires suits { Suits (program_of self.now.program.now) (Input.view self.now.input) }
         requires groups { length self.now.groups.now ≡ (program_of self.now.program.now).groups }
         requires linear { IsLinear (flow_in table.now) (heights_in table.now) (program_of self.now.program.now) }
         requires short { suc (length (Input.view self.now.input).units) < too_long }
-        requires within { rank < length (heights_in table.now).order }
+        requires level { IsLevel (heights_in table.now) level }
+        requires from { level.from ≤ index }
+        requires within { index < level.to }
         requires lies { offset ≤ length (Input.view self.now.input).units }
         requires place { is_place ≡ true → IsAtPlace (reading_of (Input.view self.now.input)) offset }
         requires apart { is_place ≡ false → IsAtPlace (reading_of (Input.view self.now.input)) offset → ⊥ }
         requires sized { IsSized (program_of self.now.program.now) answers.old }
-        requires filled { IsFilledIn Input.view self.now table.now answers.old forward rank offset }
+        requires filled { IsFilledIn Input.view self.now table.now answers.old level index offset }
         ensures sized { OnOk result (IsSized (program_of self.now.program.now) answers.new) }
-        ensures filled { OnOk result (IsFilledIn Input.view self.now table.now answers.new forward (suc rank) offset) }
+        ensures filled { OnOk result (IsFilledIn Input.view self.now table.now answers.new level (suc index) offset) }
     {
-        let at = table.address(rank);
-        if !table.is_due(forward, rank, at) {
-            return Ok(());
-        }
+        let at = table.address(index);
         if !is_place && reads_character(self.instruction(at)) {
             return Ok(());
         }
-        self.work_at(answers, forward, at, offset)
+        self.work_at(table, answers, level.forward, at, offset)
     }
 
-    /// Works out all addresses that are read so at an offset, the lowest rank first. It counts a step for each address.
+    /// Works out all addresses of a level at an offset, the lowest rank first. It counts a step for each.
     fn fill_offset(
         &self,
         table: &LinearTable,
         answers: &mut Answers,
-        forward: bool,
+        level: Level,
         is_place: bool,
         offset: usize,
         steps: &mut usize,
@@ -121,18 +121,19 @@ impl<'a, Input: ExecutorInput> Answering<'a, Input> {
         requires groups { length self.now.groups.now ≡ (program_of self.now.program.now).groups }
         requires linear { IsLinear (flow_in table.now) (heights_in table.now) (program_of self.now.program.now) }
         requires short { suc (length (Input.view self.now.input).units) < too_long }
+        requires level { IsLevel (heights_in table.now) level }
         requires lies { offset ≤ length (Input.view self.now.input).units }
         requires place { is_place ≡ true → IsAtPlace (reading_of (Input.view self.now.input)) offset }
         requires apart { is_place ≡ false → IsAtPlace (reading_of (Input.view self.now.input)) offset → ⊥ }
         requires sized { IsSized (program_of self.now.program.now) answers.old }
-        requires filled { IsFilledIn Input.view self.now table.now answers.old forward 0 offset }
+        requires filled { IsFilledIn Input.view self.now table.now answers.old level level.from offset }
         ensures sized { OnOk result (IsSized (program_of self.now.program.now) answers.new) }
-        ensures filled { OnOk result (IsFilledIn Input.view self.now table.now answers.new forward (length (heights_in table.now).order) offset) }
-        ensures counted { OnOk result (steps.new ≤ steps.old + length (heights_in table.now).order) }
+        ensures filled { OnOk result (IsFilledIn Input.view self.now table.now answers.new level level.to offset) }
+        ensures counted { OnOk result (steps.new ≤ steps.old + (level.to - level.from)) }
     {
-        for rank in 0..table.count() {
+        for index in level.from..level.to {
             *steps = steps.saturating_add(1);
-            self.fill_at(table, answers, forward, is_place, rank, offset)?;
+            self.fill_at(table, answers, level, is_place, index, offset)?;
         }
         Ok(())
     }
@@ -148,12 +149,12 @@ impl<'a, Input: ExecutorInput> Answering<'a, Input> {
         }
     }
 
-    /// Works out all addresses that are read so at an offset, where `place` is the next place to come, and makes it the one behind.
+    /// Works out all addresses of a level at an offset, where `place` is the next place to come, and makes it the one behind.
     fn fill_next(
         &self,
         table: &LinearTable,
         answers: &mut Answers,
-        forward: bool,
+        level: Level,
         offset: usize,
         place: &mut usize,
         steps: &mut usize,
@@ -162,50 +163,52 @@ impl<'a, Input: ExecutorInput> Answering<'a, Input> {
         requires groups { length self.now.groups.now ≡ (program_of self.now.program.now).groups }
         requires linear { IsLinear (flow_in table.now) (heights_in table.now) (program_of self.now.program.now) }
         requires short { suc (length (Input.view self.now.input).units) < too_long }
+        requires level { IsLevel (heights_in table.now) level }
         requires lies { offset ≤ length (Input.view self.now.input).units }
-        requires awaited { IsAwaited (Input.view self.now.input) (direction_of forward) offset place.old }
+        requires awaited { IsAwaited (Input.view self.now.input) (direction_of level.forward) offset place.old }
         requires sized { IsSized (program_of self.now.program.now) answers.old }
-        requires filled { IsFilledIn Input.view self.now table.now answers.old forward 0 offset }
+        requires filled { IsFilledIn Input.view self.now table.now answers.old level level.from offset }
         ensures sized { OnOk result (IsSized (program_of self.now.program.now) answers.new) }
-        ensures filled { OnOk result (IsFilledIn Input.view self.now table.now answers.new forward (length (heights_in table.now).order) offset) }
-        ensures awaited { OnOk result ((q : ℕ) → q ≤ length (Input.view self.now.input).units → IsBehind (Input.view self.now.input) forward offset q
-            → IsAwaited (Input.view self.now.input) (direction_of forward) q place.new) }
-        ensures counted { OnOk result (steps.new ≤ steps.old + length (heights_in table.now).order) }
+        ensures filled { OnOk result (IsFilledIn Input.view self.now table.now answers.new level level.to offset) }
+        ensures awaited { OnOk result ((q : ℕ) → q ≤ length (Input.view self.now.input).units → IsBehind (Input.view self.now.input) level.forward offset q
+            → IsAwaited (Input.view self.now.input) (direction_of level.forward) q place.new) }
+        ensures counted { OnOk result (steps.new ≤ steps.old + (level.to - level.from)) }
     {
         let is_place = offset == *place;
-        self.fill_offset(table, answers, forward, is_place, offset, steps)?;
+        self.fill_offset(table, answers, level, is_place, offset, steps)?;
         if is_place {
-            *place = self.next_place(forward, *place);
+            *place = self.next_place(level.forward, *place);
         }
         Ok(())
     }
 
-    /// Works out all that is read forward, or backward, at each offset of the text: against the direction, so that what is ahead is told. It
-    /// counts a step for each address at each offset.
-    fn fill_way(
+    /// Works out a level at each offset of the text: against the direction in which it is read, so that what is ahead is told. It counts a
+    /// step for each of its addresses at each offset.
+    fn fill_level(
         &self,
         table: &LinearTable,
         answers: &mut Answers,
-        forward: bool,
+        level: Level,
         steps: &mut usize,
     ) -> Result<(), AllocError>
         requires suits { Suits (program_of self.now.program.now) (Input.view self.now.input) }
         requires groups { length self.now.groups.now ≡ (program_of self.now.program.now).groups }
         requires linear { IsLinear (flow_in table.now) (heights_in table.now) (program_of self.now.program.now) }
         requires short { suc (length (Input.view self.now.input).units) < too_long }
+        requires level { IsLevel (heights_in table.now) level }
         requires sized { IsSized (program_of self.now.program.now) answers.old }
-        requires filled { IsFilledIn Input.view self.now table.now answers.old forward 0 (offset_of forward (length (Input.view self.now.input).units) 0) }
+        requires filled { IsFilledToIn Input.view self.now table.now answers.old level.from }
         ensures sized { OnOk result (IsSized (program_of self.now.program.now) answers.new) }
-        ensures filled { OnOk result (IsFilledIn Input.view self.now table.now answers.new forward
-            (length (heights_in table.now).order) (offset_of forward (length (Input.view self.now.input).units) (length (Input.view self.now.input).units))) }
-        ensures counted { OnOk result (steps.new ≤ steps.old + suc (length (Input.view self.now.input).units) * length (heights_in table.now).order) }
+        ensures filled { OnOk result (IsFilledToIn Input.view self.now table.now answers.new level.to) }
+        ensures counted { OnOk result (steps.new ≤ steps.old + suc (length (Input.view self.now.input).units) * (level.to - level.from)) }
     {
+        let forward = level.forward;
         let last = self.text_len();
         let mut place = if forward { last } else { 0 };
         let mut step = 0;
         loop {
             let offset = if forward { last - step } else { step };
-            self.fill_next(table, answers, forward, offset, &mut place, steps)?;
+            self.fill_next(table, answers, level, offset, &mut place, steps)?;
             if step == last {
                 return Ok(());
             }
@@ -213,8 +216,8 @@ impl<'a, Input: ExecutorInput> Answering<'a, Input> {
         }
     }
 
-    /// Works out for each address and each offset of the text whether runs from there have an answer. It counts two steps for each, one for
-    /// each direction. It errs where memory is refused.
+    /// Works out for each address and each offset of the text whether runs from there have an answer, the deepest level first. It counts a
+    /// step for each. It errs where memory is refused.
     pub(crate) fn answers(
         &self,
         alloc: Global,
@@ -230,8 +233,12 @@ impl<'a, Input: ExecutorInput> Answering<'a, Input> {
         ensures counted { OnOk result (steps.new ≤ steps.old + fill_steps table.now (Input.view self.now.input)) }
     {
         let mut answers = Answers::empty(alloc, self.program.insns().len())?;
-        self.fill_way(table, &mut answers, false, steps)?;
-        self.fill_way(table, &mut answers, true, steps)?;
+        let mut from = 0;
+        'levels: while from < table.count() {
+            let level = table.level(from);
+            self.fill_level(table, &mut answers, level, steps)?;
+            from = level.to;
+        }
         Ok(answers)
     }
 }

@@ -2,6 +2,7 @@
 #![tactic(auto)]
 
 mod answers;
+mod contents;
 mod filling;
 mod places;
 mod searching;

@@ -36,7 +36,7 @@ fn blank_groups(alloc: Global, count: usize) -> Result<Vec<GroupData<usize>>, Al
 }
 
 impl TextTable {
-    /// The table of a text. It counts two steps for each address and each offset. It errs where memory is refused: it takes a bit or two for
+    /// The table of a text. It counts at most two steps for each address at each offset. It errs where memory is refused: it takes a bit or two for
     /// each.
     ///
     /// Asks that the program is linear, as its table says, and that the text has no more units than there may be.

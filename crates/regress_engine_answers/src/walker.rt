@@ -2,19 +2,12 @@
 ghost use Rattle.std.specs.Prelude.{◌≡◌, ◌+◌, ◌^◌, ◌<◌, suc, [], ◌∷◌, true, None, Some, IfOk, OnOk, if◌then◌else◌};
 ghost use Rattle.regress_engine_insn.specs.Instructions.{fail};
 ghost use Rattle.regress_engine_insn.specs.InsnViews.{instruction};
-ghost use Rattle.regress_engine_answers.specs.Walked.{entered, frame, goes, is_entered, offset_behind, walk_of};
+ghost use Rattle.regress_engine_ways.specs.Ways.{is_entered};
+ghost use Rattle.regress_engine_answers.specs.Walked.{entered, frame, goes, offset_behind, walk_of};
 
 use regress_engine_insn::Insn;
+use regress_engine_ways::Station;
 use std::alloc::{AllocError, Global};
-
-/// An address, and an offset.
-#[derive(Debug, Clone, Copy)]
-pub(crate) struct Station {
-    /// The address.
-    pub(crate) at: usize,
-    /// The offset.
-    pub(crate) offset: usize,
-}
 
 /// Contents that are gone through: where the way goes on behind them.
 #[derive(Debug, Clone, Copy)]

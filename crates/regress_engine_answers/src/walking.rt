@@ -19,14 +19,16 @@ ghost use Rattle.regress_engine_answers.specs.Filled.{AreRight};
 ghost use Rattle.regress_engine_linear.specs.Linear.{IsLinear, too_long};
 ghost use Rattle.regress_engine_linear.specs.LinearViews.{flow_in, heights_in};
 ghost use Rattle.regress_engine_answers.specs.Searched.{IsReadyIn};
-ghost use Rattle.regress_engine_answers.specs.Walked.{AreExitsKnown, AreExitsTold, again_at, either_of, first_of, led, marked, station_at, written_by};
+ghost use Rattle.regress_engine_ways.specs.Ways.{again_at, either_of, first_of, led, marked, station_at, written_by};
+ghost use Rattle.regress_engine_answers.specs.Walked.{AreExitsKnown, AreExitsTold};
 
 use crate::answers::{Answering, Answers};
-use crate::walker::{Station, Walker};
+use crate::walker::Walker;
 use regress_engine_advance::{advance, after_times};
 use regress_engine_insn::Insn;
 use regress_engine_linear::LinearTable;
 use regress_engine_search::ExecutorInput;
+use regress_engine_ways::Station;
 use regress_front_core::GroupData;
 use std::alloc::AllocError;
 

@@ -383,31 +383,18 @@ impl<'a, Input: ExecutorInput> Attempt<'a, Input> {
         ensures so { AreOf (world Input.view self.now) failures.new }
     {
         let insn = self.instruction(spot.at + 1);
-        let Some(near) = after_times(
-            self.program,
-            &self.input,
-            insn,
-            least,
-            spot.forward,
-            &memory.groups,
-            spot.offset,
-        ) else {
+        let groups = &memory.groups;
+        let from = spot.offset;
+        let ahead = spot.forward;
+        let Some(near) = after_times(self.program, &self.input, insn, least, ahead, groups, from)
+        else {
             counts.pass(0, least.min(self.text_len()));
             return Ok(false);
         };
         let left = most - least;
         let at = spot.at + 2;
         if !greedy {
-            let going = self.take_on_known(
-                at,
-                spot.offset,
-                near,
-                left,
-                memory,
-                failures,
-                counts,
-                spot,
-            )?;
+            let going = self.take_on_known(at, from, near, left, memory, failures, counts, spot)?;
             return Ok(going);
         }
         let Some(far) = self.far_exit(at, near, left, spot.forward, memory, failures) else {

@@ -149,7 +149,7 @@ impl<'a, Input: ExecutorInput> Attempt<'a, Input> {
     }
 
     /// Begins the instruction at a spot where failures are kept: drops the state there if it surely fails, or does a
-    /// one-character loop that may take the whole text. It answers whether it continues, or `None` where the instruction is still to be done.
+    /// one-character loop that may take the whole text and whose exits may fail. It answers whether it continues, or `None` where the instruction is still to be done.
     #[inline(never)]
     fn begin_known(
         &self,
@@ -178,7 +178,8 @@ impl<'a, Input: ExecutorInput> Attempt<'a, Input> {
         else {
             return Ok(None);
         };
-        if *max_iters < self.text_len() {
+        // (behind a loop that ends contents nothing fails)
+        if *max_iters < self.text_len() || self.is_goal(spot.at.saturating_add(2)) {
             return Ok(None);
         }
         let going = self.repeat_known(
@@ -242,11 +243,8 @@ impl<'a, Input: ExecutorInput> Attempt<'a, Input> {
     fn nothing_known(&self, alloc: Global) -> Option<Box<Failures>>
         ensures { IfSome result (λ failures. AreOf (world Input.view self.now) failures.value) }
     {
-        let Ok(Some(table)) = FlowTable::of(
-            alloc,
-            self.program.insns(),
-            self.program.loops() as usize,
-        ) else {
+        let loops = self.program.loops() as usize;
+        let Ok(Some(table)) = FlowTable::of(alloc, self.program.insns(), loops) else {
             return None;
         };
         match Box::new(alloc, Failures::new(alloc, table, MOST_BLOCKS)) {

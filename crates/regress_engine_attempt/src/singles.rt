@@ -23,7 +23,7 @@ use std::alloc::AllocError;
 impl<'a, Input: ExecutorInput> Attempt<'a, Input> {
     /// Whether a goal stands at an address.
     #[inline]
-    fn is_goal(&self, at: usize) -> bool
+    pub(crate) fn is_goal(&self, at: usize) -> bool
         ensures { result ≡ true → Stands (program_of self.now.program.now) at goal }
     {
         matches!(self.program.insns().get(at), Some(Insn::Goal))
@@ -60,19 +60,45 @@ impl<'a, Input: ExecutorInput> Attempt<'a, Input> {
         ensures counted { Passes (Input.view self.now.input) 1 counts.old.more counts.new.more }
     {
         let near = spot.offset;
-        let far = as_far(
-            self.program,
-            &self.input,
-            insn,
-            most,
-            true,
-            &memory.groups,
-            near,
-        );
+        let groups = &memory.groups;
+        let far = as_far(self.program, &self.input, insn, most, true, groups, near);
         counts.pass(near, far);
         counts.spare = counts.spare.saturating_sub(far.abs_diff(near) / 8);
         spot.at += 2;
         spot.offset = far;
+    }
+
+    /// Does any other greedy one-character loop that may take nothing, read forward. It is apart, with no room for what others need.
+    #[inline(never)]
+    fn repeat_back(
+        &self,
+        insn: &Insn,
+        most: usize,
+        counts: &mut Counts,
+        memory: &mut Memory,
+        spot: &mut Spot,
+    ) -> Result<bool, AllocError>
+        requires suits { Suits (program_of self.now.program.now) (Input.view self.now.input) }
+        requires sound { IsHeldIn (world Input.view self.now) (held memory.old) }
+        requires stands { Stands (program_of self.now.program.now) (spot.old.at + 1) (instruction insn.now) }
+        requires body { IsBody (program_of self.now.program.now) (Input.view self.now.input) (spot.old.at + 2) spot.old.offset }
+        requires forward { spot.old.forward ≡ true }
+        ensures leads { IfOk result (Does (world Input.view self.now) (single_loop 0 most true) spot.old (held memory.old) spot.new (held memory.new)) }
+        ensures sound { OnOk result (IsHeldIn (world Input.view self.now) (held memory.new)) }
+        ensures counted { OnOk result (Passes (Input.view self.now.input) 1 counts.old.more counts.new.more) }
+    {
+        let near = spot.offset;
+        let at = spot.at + 2;
+        let groups = &memory.groups;
+        let far = as_far(self.program, &self.input, insn, most, true, groups, near);
+        if near == far {
+            spot.at = at;
+            spot.offset = far;
+            return Ok(true);
+        }
+        counts.pass(near, far);
+        let going = self.give_back(at, near, far, &mut counts.spare, memory, spot)?;
+        Ok(going)
     }
 
     /// Does any one-character loop, as `repeat` does.
@@ -94,30 +120,18 @@ impl<'a, Input: ExecutorInput> Attempt<'a, Input> {
         ensures counted { OnOk result (Passes (Input.view self.now.input) 1 counts.old.more counts.new.more) }
     {
         let insn = self.instruction(spot.at + 1);
-        let Some(near) = after_times(
-            self.program,
-            &self.input,
-            insn,
-            least,
-            spot.forward,
-            &memory.groups,
-            spot.offset,
-        ) else {
+        let groups = &memory.groups;
+        let from = spot.offset;
+        let ahead = spot.forward;
+        let Some(near) = after_times(self.program, &self.input, insn, least, ahead, groups, from)
+        else {
             counts.pass(0, least.min(self.text_len()));
             return Ok(false);
         };
         let left = most - least;
         let at = spot.at + 2;
         if greedy {
-            let far = as_far(
-                self.program,
-                &self.input,
-                insn,
-                left,
-                spot.forward,
-                &memory.groups,
-                near,
-            );
+            let far = as_far(self.program, &self.input, insn, left, ahead, groups, near);
             counts.pass(spot.offset, far);
             if spot.forward && is_possessive(self.program, spot.at) {
                 counts.spare = counts.spare.saturating_sub(far.abs_diff(near) / 8);
@@ -157,9 +171,12 @@ impl<'a, Input: ExecutorInput> Attempt<'a, Input> {
         ensures counted { OnOk result (Passes (Input.view self.now.input) 1 counts.old.more counts.new.more) }
     {
         let insn = self.instruction(spot.at + 1);
-        if greedy && least == 0 && spot.forward && self.spares(spot.at) {
-            self.repeat_all(insn, most, counts, memory, spot);
-            return Ok(true);
+        if greedy && least == 0 && spot.forward {
+            if self.spares(spot.at) {
+                self.repeat_all(insn, most, counts, memory, spot);
+                return Ok(true);
+            }
+            return self.repeat_back(insn, most, counts, memory, spot);
         }
         self.repeat_ways(least, most, greedy, counts, memory, spot)
     }

@@ -31,14 +31,10 @@ impl<'a, Input: ExecutorInput> Attempt<'a, Input> {
         requires reads { ReadsHere (world Input.view self.now) spot.old (held memory.now) (instruction insn.now) }
         ensures { Steps (world Input.view self.now) spot.old (held memory.now) spot.new (held memory.now) (Some result) }
     {
-        let Some(next) = advance(
-            self.program,
-            &self.input,
-            insn,
-            spot.forward,
-            &memory.groups,
-            spot.offset,
-        ) else {
+        let forward = spot.forward;
+        let groups = &memory.groups;
+        let offset = spot.offset;
+        let Some(next) = advance(self.program, &self.input, insn, forward, groups, offset) else {
             return false;
         };
         spot.at += 1;

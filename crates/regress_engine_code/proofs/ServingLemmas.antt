@@ -3,7 +3,7 @@ use Rattle.std.proofs.Common.{◌≡◌, ℕ, Bool, List, take, drop, length, re
 use Rattle.regress_meaning.specs.Text.{holds}
 use Rattle.regress_front_nodes.specs.Trees.{Tree}
 use Rattle.regress_engine_scanning.specs.Units.{AreAscii}
-use Rattle.regress_engine_prefix.specs.Starts.{AreNear, BeginsAs, is_arbitrary, HoldsAtStart, IsPlain, Serves, IsSameStart}
+use Rattle.regress_engine_prefix.specs.Starts.{AreNear, IsApart, BeginsAs, is_arbitrary, HoldsAtStart, IsPlain, Serves, IsSameStart}
 use Rattle.regress_engine_prefix.specs.declared.start.StartPredicate.{StartPredicate}
 use Rattle.regress_engine_prefix.specs.declared.start.StartPredicate.TheVariants.{Arbitrary, ByteSet1, ByteSet2, ByteSet3, ByteSeq, ByteBracket, ByteNear, StartAnchored}
 use Rattle.regress_engine_prefix.specs.declared.start.StartPredicate.TheVariants as variant
@@ -16,6 +16,7 @@ pub record SayTheSame (start other : StartPredicate) : Type 0 where
   pub plain : IsPlain start → IsPlain other
   pub first : (t : Tree) → HoldsAtStart t start → HoldsAtStart t other
   pub near : (points : List ℕ) → AreNear start points → AreNear other points
+  pub apart : (points : List ℕ) (place : ℕ) → IsApart start points place → IsApart other points place
 
 one-says : (start other : StartPredicate) → other ≡ start → SayTheSame start other
 one-says start other e = record {
@@ -25,6 +26,7 @@ one-says start other e = record {
   plain = subst IsPlain (sym e);
   first = λ t. subst (HoldsAtStart t) (sym e);
   near = λ points. subst (λ p. AreNear p points) (sym e);
+  apart = λ points place. subst (λ p. IsApart p points place) (sym e);
 }
 
 pub same-says : (start other : StartPredicate) → IsSameStart start other → SayTheSame start other
@@ -35,6 +37,7 @@ same-says (ByteSeq front) (ByteSeq others) e = record {
   plain = subst (λ f. AreAscii (holds f)) (sym e);
   first = λ t h. tt;
   near = λ points h. tt;
+  apart = λ points place h. tt;
 }
 same-says (ByteSeq front) Arbitrary e = absurd e
 same-says (ByteSeq front) (ByteSet1 _) e = absurd e
@@ -67,5 +70,6 @@ copy-serves units t start other same serves =
       characters = λ is. record {
         each = λ context points s some. says.on _ 0 ((serves.characters is).each context points s some);
         near = λ context points s some. says.near _ ((serves.characters is).near context points s some);
+        apart = λ context points s some. says.apart _ _ ((serves.characters is).apart context points s some);
       };
     }

@@ -12,6 +12,7 @@ use Rattle.regress_front_nodes.specs.declared.ir.Regex.{Regex}
 use Rattle.regress_engine_code.specs.declared.compiled.CompiledRegex.{CompiledRegex}
 use Rattle.regress_engine_insn.specs.Instructions.{Program, begins_loop}
 use Rattle.regress_engine_analysis.specs.MayBegin.{may_begin_with}
+use Rattle.regress_engine_analysis.specs.Shared.{facts_of}
 use Rattle.regress_engine_analysis.specs.Planned.{firsts, known_of}
 use Rattle.regress_engine_insn.specs.Counts.{count}
 use Rattle.regress_engine_insn.specs.Layout.{Target, IsLayout}
@@ -32,7 +33,7 @@ names_of compiled = map string_bytes (arc_slice_items compiled.group_names)
 
 -- by what a program tells of an address, no match from there begins with this byte
 abbrev pub cannot_begin_with : CompiledRegex → (at b : ℕ) → Bool
-cannot_begin_with compiled at b = not (may_begin_with (firsts compiled.plan.facts.items) at b)
+cannot_begin_with compiled at b = not (may_begin_with (firsts (facts_of compiled.plan)) at b)
 
 -- how many instructions a program of a tree has, in units or in bytes
 abbrev pub length_for : (units : Bool) → Regex → ℕ
@@ -60,4 +61,4 @@ pub record IsCopyOf (compiled copy : CompiledRegex) : Type 0 where
   pub flags : copy.flags ≡ compiled.flags
   pub tables : known_by copy.tables ≡ known_by compiled.tables
   pub cannot_begin_with : (at b : ℕ) → cannot_begin_with copy at b ≡ cannot_begin_with compiled at b
-  pub known : (at : ℕ) → known_of copy.plan.facts.items at ≡ known_of compiled.plan.facts.items at
+  pub known : (at : ℕ) → known_of (facts_of copy.plan) at ≡ known_of (facts_of compiled.plan) at

@@ -20,16 +20,19 @@ pub(crate) struct Code {
     pub(crate) loops: LoopID,
 }
 
+/// There is room for so many instructions at first, so that a short program asks for memory once.
+const FEW: usize = 16;
+
 impl Code {
     /// Nothing is written yet.
-    pub(crate) fn new(alloc: Global) -> Code
-        ensures { written result ≡ record { instructions = []; brackets = []; loops = 0 } }
+    pub(crate) fn new(alloc: Global) -> Result<Code, AllocError>
+        ensures { IfOk result (λ code. written code ≡ record { instructions = []; brackets = []; loops = 0 }) }
     {
-        Code {
-            insns: Vec::new(alloc),
+        Ok(Code {
+            insns: Vec::with_capacity(alloc, FEW)?,
             brackets: Vec::new(alloc),
             loops: 0,
-        }
+        })
     }
 
     /// Writes an instruction behind the others. `OutOfMemory` is the only error.

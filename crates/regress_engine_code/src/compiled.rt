@@ -3,6 +3,7 @@ ghost use Rattle.std.specs.Prelude.{◌≡◌, IfOk, IfErr};
 ghost use Rattle.std.specs.Arc.{arc_slice_items};
 ghost use Rattle.regress_engine_insn.specs.ProgramViews.{program_from, target_from};
 ghost use Rattle.regress_engine_analysis.specs.Planned.{ArePlanned};
+ghost use Rattle.regress_engine_analysis.specs.Shared.{facts_of};
 ghost use Rattle.regress_engine_analysis.specs.Submatches.{has_submatches};
 ghost use Rattle.regress_engine_code.specs.Laid.{IsLaid};
 
@@ -32,7 +33,7 @@ pub struct CompiledRegex {
     /// What is known of each address.
     pub(crate) plan: Plan,
     pub(crate) ghost laid: { ∥ IsLaid (target_from (program_from insns.items brackets.items loops groups units) tables flags) start_pred ∥₁ },
-    pub(crate) ghost planned: { ArePlanned (program_from insns.items brackets.items loops groups units) plan.facts.items },
+    pub(crate) ghost planned: { ArePlanned (program_from insns.items brackets.items loops groups units) (facts_of plan) },
     pub(crate) ghost submatches: { plan.submatches ≡ has_submatches insns.items },
 }
 
@@ -133,7 +134,7 @@ impl CompiledRegex {
     /// ```
     #[inline(always)]
     pub fn known(&self, at: usize) -> Known
-        ensures { result ≡ known_of self.now.plan.facts.items at }
+        ensures { result ≡ known_of (facts_of self.now.plan) at }
     {
         self.plan.known(at)
     }

@@ -92,7 +92,7 @@ fn whole_program(alloc: Global, regex: &Regex<'_>, units: bool) -> Result<Compil
         unicode: regex.flags.is_unicode(),
         units,
     };
-    let mut code = Code::new(alloc);
+    let mut code = Code::new(alloc)?;
     emitter.node(&mut code, &regex.node, false)?;
     let names = regex.node.group_names(alloc)?;
     let groups = group_count(&names)?;

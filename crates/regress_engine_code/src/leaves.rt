@@ -1,5 +1,5 @@
 //! The instructions of sets and literals.
-ghost use Rattle.std.specs.Prelude.{◌≡◌, ◌<◌, ◌≤◌, [], length, map, chars, All, IfOk, if◌then◌else◌};
+ghost use Rattle.std.specs.Prelude.{◌≡◌, ◌<◌, ◌≤◌, ◌++◌, [], length, map, chars, All, IfOk, OnOk, if◌then◌else◌};
 ghost use Rattle.std.specs.Str.{IsUtf8};
 ghost use Rattle.regress_front_nodes.specs.Forms.{in_reading_order};
 ghost use Rattle.regress_engine_insn.specs.Instructions.{char, byte_seq};
@@ -146,4 +146,38 @@ pub(crate) fn literal(
         insns.reverse();
     }
     Ok(insns)
+}
+
+/// Writes the characters of a text behind other instructions.
+fn push_characters(insns: &mut Vec<Insn>, text: &str) -> Result<(), AllocError>
+    ensures { OnOk result (insns.new.items ≡ insns.old.items ++ map (λ c. Insn.Char c) (chars text.now)) }
+{
+    for c in text.chars() {
+        insns.push(Insn::Char(CodePoint::from(c)))?;
+    }
+    Ok(())
+}
+
+/// Writes a literal behind other instructions, in the order of reading. In a program of units it has an instruction for each
+/// character, so these are written where they stay.
+pub(crate) fn push_literal(
+    alloc: Global,
+    insns: &mut Vec<Insn>,
+    bytes: &[u8],
+    backward: bool,
+    units: bool,
+) -> Result<(), AllocError>
+    requires { IsUtf8 bytes.now }
+    ensures { OnOk result (map instruction insns.new.items ≡ map instruction insns.old.items ++ in_reading_order backward
+        (if units then map char (chars bytes.now) else map byte_seq (chunks (length bytes.now) bytes.now))) }
+{
+    if backward || !units {
+        let mut written = literal(alloc, bytes, backward, units)?;
+        insns.append(&mut written)?;
+        return Ok(());
+    }
+    match str::from_utf8(bytes) {
+        Ok(text) => push_characters(insns, text),
+        Err(_) => unreachable!(),
+    }
 }

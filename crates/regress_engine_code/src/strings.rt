@@ -16,7 +16,7 @@ ghost use Rattle.regress_engine_code.specs.Emitting.{target, OpensArms, RefusesA
 
 use crate::code::Code;
 use crate::emitter::Emitter;
-use crate::leaves::{byte_set, char_set, literal};
+use crate::leaves::{byte_set, char_set, literal, push_literal};
 use regress_engine_insn::Insn;
 use regress_front_core::Error;
 use regress_front_nodes::{Piece, lower_code_point_sequence};
@@ -30,7 +30,8 @@ impl<'u> Emitter<'u> {
         ensures added { OnOk result (Emits self.now backward (bytes text.now) (written code.old) (written code.new)) }
         ensures refused { IfErr result (MayRefuse 0 0) }
     {
-        code.append(literal(self.alloc, text, backward, self.units)?)
+        push_literal(self.alloc, &mut code.insns, text, backward, self.units)?;
+        Ok(())
     }
 
     /// The instructions of a piece of a string. `OutOfMemory` is the only error.

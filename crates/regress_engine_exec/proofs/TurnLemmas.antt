@@ -23,8 +23,8 @@ use Rattle.regress_engine_runs.proofs.OneAnswer.{IsComputed-prop}
 use Rattle.regress_engine_search.specs.Search.{IsSearchable}
 use Rattle.regress_engine_memory.specs.Flow.{Flow, Hands, Writes, IsToldOf, BeginsAnew, Flows}
 use Rattle.regress_engine_linear.specs.Ranks.{Ranking, Lowers, Inside, IsCycle, Ranks, asked_less}
-use Rattle.regress_engine_linear.specs.RankTables.{Heights, ranking_of}
-use Rattle.regress_engine_linear.specs.Linear.{AreLoopFree, IsLinear, IsUnboundedOrOnce, LeavesGroups, AreFew, few, leads_through, too_long}
+use Rattle.regress_engine_linear.specs.RankTables.{ArePlaced, Heights, IsBefore, address_at, level_at, ranking_of}
+use Rattle.regress_engine_linear.specs.Linear.{AreLoopFree, IsLinear, IsUnboundedOrOnce, LeavesGroups, AreFew, few, is_visited_once, leads_through, too_long}
 use Rattle.regress_engine_linear.specs.LinearViews.{flow_in, heights_in}
 use Rattle.regress_engine_linear.specs.Answered.{Ends}
 use Rattle.regress_engine_linear.specs.declared.testing.LinearTable.{LinearTable}
@@ -149,27 +149,29 @@ module _ (r : Ranking) where
   lowers-anyway : (taken from to : ℕ) → ∥ Lowers r taken from to ∥₁ → Lowers r taken from to
   lowers-anyway taken from to t = record {
     within = ∥∥₁_elim t le_prop (λ x. x.within);
-    way = ∥∥₁_elim t (bool-set (r.forward to) (r.forward from)) (λ x. x.way);
+    level = ∥∥₁_elim t (nat-set (r.level to) (r.level from)) (λ x. x.level);
     same = ∥∥₁_elim t (nat-set (r.outside to) (r.outside from)) (λ x. x.same);
     rank = order-anyway 1 taken (suc (r.rank to)) (r.rank from) (∥∥₁_map t (λ x. x.rank));
   }
 
-  inside-rank : (at : ℕ) (a b : Bool) → r.forward (suc at) ≡ a → r.forward at ≡ b
-      → ∥ ((r.forward (suc at) ≡ r.forward at) × (r.rank (suc at) < r.rank at)) ⊎ ((r.forward at ≡ true) × (r.forward (suc at) ≡ false)) ∥₁
-      → ((r.forward (suc at) ≡ r.forward at) × (r.rank (suc at) < r.rank at)) ⊎ ((r.forward at ≡ true) × (r.forward (suc at) ≡ false))
-  inside-rank at false true inner outer t = inr (outer, inner)
-  inside-rank at false false inner outer t =
-      inl (inner ∙ sym outer, ∥∥₁_elim t le_prop (λ x. elim x [ inl own ↦ own.1 | inr other ↦ absurd (cc (other.0, outer)) ]))
-  inside-rank at true true inner outer t =
-      inl (inner ∙ sym outer, ∥∥₁_elim t le_prop (λ x. elim x [ inl own ↦ own.1 | inr other ↦ absurd (cc (other.1, inner)) ]))
-  inside-rank at true false inner outer t =
-      absurd (∥∥₁_elim t never-prop (λ x. elim x [ inl own ↦ absurd (cc (own.0, inner, outer)) | inr other ↦ absurd (cc (other.0, outer)) ]))
+  inside-rank : (at : ℕ) → ∥ ((r.level (suc at) ≡ r.level at) × (r.rank (suc at) < r.rank at)) ⊎ (r.level at < r.level (suc at)) ∥₁
+      → ((r.level (suc at) ≡ r.level at) × (r.rank (suc at) < r.rank at)) ⊎ (r.level at < r.level (suc at))
+  inside-rank at t = by_level (cases_lt (r.level at) (r.level (suc at)))
+    where
+      by_level : (r.level at < r.level (suc at)) ⊎ (r.level (suc at) ≤ r.level at)
+          → ((r.level (suc at) ≡ r.level at) × (r.rank (suc at) < r.rank at)) ⊎ (r.level at < r.level (suc at))
+      by_level (inl deeper) = inr deeper
+      by_level (inr low) = inl (
+        ∥∥₁_elim t (nat-set (r.level (suc at)) (r.level at)) (λ x. elim x [ inl own ↦ own.0 | inr deeper ↦ absurd (omega (arith, low, deeper)) ]),
+        ∥∥₁_elim t le_prop (λ x. elim x [ inl own ↦ own.1 | inr deeper ↦ absurd (omega (arith, low, deeper)) ]),
+      )
 
   inside-anyway : (kind : Submatch) (at continuation : ℕ) → ∥ Inside r kind at continuation ∥₁ → Inside r kind at continuation
   inside-anyway kind at continuation t = record {
     within = ∥∥₁_elim t le_prop (λ x. x.within);
     way = ∥∥₁_elim t (direction-set _ _) (λ x. x.way);
-    rank = inside-rank at (r.forward (suc at)) (r.forward at) refl refl (∥∥₁_map t (λ x. x.rank));
+    rank = inside-rank at (∥∥₁_map t (λ x. x.rank));
+    level = λ is. ∥∥₁_elim t (nat-set (r.level (suc at)) (r.level at)) (λ x. x.level is);
     outside = λ is. ∥∥₁_elim t (nat-set (r.outside (suc at)) continuation) (λ x. x.outside is);
   }
     where
@@ -234,19 +236,39 @@ bounded-anyway f t = by_order (cases_lt f.most too_long)
     by_order (inr all) = inl all
     by_order (inl low) = inr (∥∥₁_elim t (nat-set f.most 1) (λ x. elim x [ inl all ↦ absurd (omega (arith, low, all)) | inr once ↦ once ]))
 
-free-anyway : (program : Program) (nests : Bool) (at first last continuation : ℕ) → ∥ AreLoopFree program nests at first last continuation ∥₁
-    → AreLoopFree program nests at first last continuation
-free-anyway program nests at first last continuation t = record {
+free-anyway : (program : Program) (singles : Bool) (at first last continuation : ℕ) → ∥ AreLoopFree program singles at first last continuation ∥₁
+    → AreLoopFree program singles at first last continuation
+free-anyway program singles at first last continuation t = record {
   some = ∥∥₁_elim t le_prop (λ x. x.some);
-  leads = λ b i after ahead here. ∥∥₁_elim t (bool-set (leads_through nests first last continuation b i) true) (λ x. x.leads b i after ahead here);
+  leads = λ b i after ahead here. ∥∥₁_elim t (bool-set (leads_through singles first last continuation b i) true) (λ x. x.leads b i after ahead here);
 }
 
 leaves-anyway : (h : Heights) (program : Program) (at : ℕ) (kind : Submatch) (first last continuation : ℕ) → ∥ LeavesGroups h program at kind first last continuation ∥₁
     → LeavesGroups h program at kind first last continuation
 leaves-anyway h program at (lookaround true backward) first last continuation t = tt
 leaves-anyway h program at (lookaround false backward) first last continuation t =
-    λ some. (free-anyway program true at first last continuation (∥∥₁_map t (λ x. (x some).0)), ∥∥₁_elim t le_prop (λ x. (x some).1))
+    λ some. (free-anyway program (is_visited_once program at) at first last continuation (∥∥₁_map t (λ x. (x some).0)), ∥∥₁_elim t le_prop (λ x. (x some).1))
 leaves-anyway h program at atomic first last continuation t = free-anyway program false at first last continuation t
+
+-- one of two addresses is worked out before the other
+before-anyway : (h : Heights) (a b : ℕ) → ∥ IsBefore h a b ∥₁ → IsBefore h a b
+before-anyway h a b t = by_level (cases_lt (level_at h b) (level_at h a))
+  where
+    by_level : (level_at h b < level_at h a) ⊎ (level_at h a ≤ level_at h b) → IsBefore h a b
+    by_level (inl deeper) = inl deeper
+    by_level (inr low) = inr (
+      ∥∥₁_elim t (nat-set (level_at h b) (level_at h a)) (λ x. elim x [ inl deeper ↦ absurd (omega (arith, low, deeper)) | inr lower ↦ lower.0 ]),
+      ∥∥₁_elim t le_prop (λ x. elim x [ inl deeper ↦ absurd (omega (arith, low, deeper)) | inr lower ↦ lower.1 ]),
+    )
+
+placed-anyway : (h : Heights) (count : ℕ) → ∥ ArePlaced h count ∥₁ → ArePlaced h count
+placed-anyway h count t = record {
+  low = λ at less. ∥∥₁_elim t le_prop (λ x. x.low at less);
+  index = λ at less. ∥∥₁_elim t le_prop (λ x. x.index at less);
+  address = λ at less. ∥∥₁_elim t (nat-set _ at) (λ x. x.address at less);
+  there = λ k less. ∥∥₁_elim t le_prop (λ x. x.there k less);
+  before = λ j k less within. before-anyway h (address_at h j) (address_at h k) (∥∥₁_map t (λ x. x.before j k less within));
+}
 
 linear-anyway : (flow : Flow) (h : Heights) (program : Program) → ∥ IsLinear flow h program ∥₁ → IsLinear flow h program
 linear-anyway flow h program t = record {
@@ -254,7 +276,7 @@ linear-anyway flow h program t = record {
   calm = λ at less. ∥∥₁_elim t (bool-set (flow.calm at) true) (λ x. x.calm at less);
   silent = λ id live. ∥∥₁_elim t never-prop (λ x. x.silent id live);
   ranked = λ at i calm here. ranks-anyway (ranking_of h) flow program at i (∥∥₁_map t (λ x. x.ranked at i calm here));
-  placed = λ at less. ∥∥₁_elim t (offset-set _ (Some at)) (λ x. x.placed at less);
+  placed = placed-anyway h (length program.instructions) (∥∥₁_map t (λ x. x.placed));
   count = ∥∥₁_elim t (nat-set _ _) (λ x. x.count);
   ranks = ∥∥₁_elim t (nat-set _ _) (λ x. x.ranks);
   some = ∥∥₁_elim t le_prop (λ x. x.some);
@@ -284,7 +306,7 @@ told-anyway table program v t kept = record {
   right = λ at q low less loops groups running reads.
       ends-anyway program (input_of v) (way_of (flow_in table) (heights_in table) program v at) (whole at q loops groups ∷ []) (told_by t.answers at q)
       (∥∥₁_map kept (λ x. x.right at q low less loops groups running reads));
-  exits = λ at o low way less least most greedy body here there place. ∥∥₁_elim kept (bool-set _ _) (λ x. x.exits at o low way less least most greedy body here there place);
+  exits = λ at o low less least most greedy body here there place. ∥∥₁_elim kept (bool-set _ _) (λ x. x.exits at o low less least most greedy body here there place);
   blank = ∥∥₁_elim kept (nat-set _ _) (λ x. x.blank);
 }
 

@@ -10,7 +10,9 @@ ghost use Rattle.regress_engine_singles.specs.Passed.{PassesOver};
 ghost use Rattle.regress_engine_leading.specs.Known.{BeginsAt, IsKnown};
 
 use crate::failing::{class_ahead, fails};
-use regress_engine_advance::{beside, boundary, is_dead, is_dead_ahead, is_word, word_beside};
+use regress_engine_advance::{
+    ascii_boundary, beside, boundary, is_dead, is_dead_ahead, is_word, word_beside,
+};
 use regress_engine_analysis::is_class;
 use regress_engine_code::CompiledRegex;
 use regress_engine_insn::Insn;
@@ -156,6 +158,27 @@ fn at_word<Input: CharInput>(
         at = behind;
     }
     Beginning::of((start < at).then_some(at))
+}
+
+/// The same where case is not ignored in Unicode mode. A run begins mostly where a word begins between characters of ASCII, and
+/// that is seen at once.
+#[inline(always)]
+fn at_plain_word<Input: CharInput>(
+    program: &CompiledRegex,
+    input: &Input,
+    start: usize,
+) -> Beginning
+    requires suits { Suits (program_of program.now) (Input.view input.now) }
+    requires place { IsAtPlace (reading_of (Input.view input.now)) start }
+    requires first { Stands (program_of program.now) 0 (boundary false false) }
+    ensures { IsKnown (program_of program.now) (Input.view input.now) start result }
+{
+    if let Some(edge) = ascii_boundary(input, start) {
+        if edge {
+            return Beginning::At(1);
+        }
+    }
+    at_word(program, input, start, false)
 }
 
 /// How far from the start on no line begins, where the program asks for that first; `None` where one begins there, and
@@ -327,7 +350,7 @@ pub fn known_at<Input: CharInput>(program: &CompiledRegex, input: &Input, start:
     }
     match &insns[0] {
         Insn::BeginCaptureGroup(_) => Beginning::of(passed_from(program, input, start, 1)),
-        Insn::WordBoundary { invert: false } => at_word(program, input, start, false),
+        Insn::WordBoundary { invert: false } => at_plain_word(program, input, start),
         Insn::WordBoundaryUnicodeICase { invert: false } => at_word(program, input, start, true),
         Insn::StartOfLine { multiline: true } => Beginning::of(passed_line(program, input, start)),
         insn => {

@@ -29,18 +29,18 @@ module _ (flow : Flow) (r : Ranking) (v : View) (all : AreOfKind v.kind v.units)
   abbrev last : ℕ
   last = length v.units
 
-  -- what is led to is beyond, is there, and is read the same way, in the same atomic group
+  -- what is led to is beyond, is there, and is of the same level, in the same atomic group
   abbrev pub On : Whole → Whole → Type 0
-  On s u = IsBeyond r last dir s u × (u.at < r.count) × (r.forward u.at ≡ r.forward s.at) × (r.outside u.at ≡ r.outside s.at)
+  On s u = IsBeyond r last dir s u × (u.at < r.count) × (r.level u.at ≡ r.level s.at) × (r.outside u.at ≡ r.outside s.at)
 
   -- by what is taken
   taking : (s : Whole) (taken to q : ℕ) → Lowers r taken s.at to → Takes last dir taken s.offset q
-      → (IsFurther last dir s.offset q ⊎ ((q ≡ s.offset) × (r.rank to < r.rank s.at))) × (to < r.count) × (r.forward to ≡ r.forward s.at) × (r.outside to ≡ r.outside s.at)
-  taking s taken to q lowers takes = (beyond-by r last dir taken s.at to s.offset q lowers takes, lowers.within, lowers.way, lowers.same)
+      → (IsFurther last dir s.offset q ⊎ ((q ≡ s.offset) × (r.rank to < r.rank s.at))) × (to < r.count) × (r.level to ≡ r.level s.at) × (r.outside to ≡ r.outside s.at)
+  taking s taken to q lowers takes = (beyond-by r last dir taken s.at to s.offset q lowers takes, lowers.within, lowers.level, lowers.same)
 
   -- at the same offset
   lower : (s : Whole) (to : ℕ) → Lowers r 0 s.at to
-      → (IsFurther last dir s.offset s.offset ⊎ ((s.offset ≡ s.offset) × (r.rank to < r.rank s.at))) × (to < r.count) × (r.forward to ≡ r.forward s.at)
+      → (IsFurther last dir s.offset s.offset ⊎ ((s.offset ≡ s.offset) × (r.rank to < r.rank s.at))) × (to < r.count) × (r.level to ≡ r.level s.at)
       × (r.outside to ≡ r.outside s.at)
   lower s to lowers = taking s 0 to s.offset lowers (takes-none last dir s.offset s.offset refl)
 

@@ -5,7 +5,7 @@ use Rattle.std.proofs.Common.{◌≡◌, ℕ, suc, ◌<◌, ◌≤◌, ◌⊎◌
 use Rattle.regress_meaning.specs.Meaning.{Direction}
 use Rattle.regress_front_nodes.specs.Trees.{Submatch, lookaround, atomic}
 use Rattle.regress_front_nodes.specs.TreeMeaning.{submatch_direction}
-use Rattle.regress_engine_input.specs.Views.{View, AreOfKind, direction_of, input_of, reading_of}
+use Rattle.regress_engine_input.specs.Views.{View, AreOfKind, input_of, reading_of}
 use Rattle.regress_engine_insn.specs.Instructions.{Instruction, Program, Stands}
 use Rattle.regress_engine_insn.specs.Instructions as code
 use Rattle.regress_engine_runs.specs.States.{Marks, Whole, mixed, onward}
@@ -40,10 +40,9 @@ behind-lies r last atomic dir at o q low leaves = leaves.0
 pub atomic-lower : (r : Ranking) (at continuation : ℕ) → Inside r atomic at continuation → r.rank (suc at) < r.rank at
 atomic-lower r at continuation contents = by_rank contents.rank
   where
-    by_rank : ((r.forward (suc at) ≡ r.forward at) × (r.rank (suc at) < r.rank at)) ⊎ ((r.forward at ≡ true) × (r.forward (suc at) ≡ false)) → r.rank (suc at) < r.rank at
+    by_rank : ((r.level (suc at) ≡ r.level at) × (r.rank (suc at) < r.rank at)) ⊎ (r.level at < r.level (suc at)) → r.rank (suc at) < r.rank at
     by_rank (inl (same, less)) = less
-    by_rank (inr (forward, back)) =
-        let never : direction_of false ≡ direction_of true = sym (ap direction_of back) ∙ contents.way ∙ ap direction_of forward in absurd (cc never)
+    by_rank (inr deeper) = let same = contents.level refl in absurd (omega (arith, deeper, same))
 
 module _ (flow : Flow) (r : Ranking) (v : View) (all : AreOfKind v.kind v.units) (program : Program) (suits : Suits program v) (closed : IsFlow flow program) (ranked : AreRanked flow r program) where
   abbrev last : ℕ
@@ -72,7 +71,7 @@ module _ (flow : Flow) (r : Ranking) (v : View) (all : AreOfKind v.kind v.units)
     same : r.outside u.at ≡ r.outside at
 
   held-each : (dir : Direction) (at o : ℕ) (s : Whole) → Held dir at o s → (us : List Whole) → AllByRecursion (Live dir) us
-      → AllByRecursion (λ u. IsBeyond r last dir s u × (u.at < r.count) × (r.forward u.at ≡ r.forward s.at) × (r.outside u.at ≡ r.outside s.at)) us → AllByRecursion (Held dir at o) us
+      → AllByRecursion (λ u. IsBeyond r last dir s u × (u.at < r.count) × (r.level u.at ≡ r.level s.at) × (r.outside u.at ≡ r.outside s.at)) us → AllByRecursion (Held dir at o) us
   held-each dir at o s held [] live on = tt
   held-each dir at o s held (u ∷ us) live on = (
     record { live = live.0; place = from-on dir at o s.at s.offset u.at u.offset held.place on.0.0; same = on.0.3 ∙ held.same },

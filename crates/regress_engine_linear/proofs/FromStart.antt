@@ -15,7 +15,7 @@ use Rattle.regress_engine_runs.specs.Meets.{Meets, now, later, inside, behind, r
 use Rattle.regress_engine_search.specs.Search.{Suits}
 use Rattle.regress_engine_memory.specs.Flow.{Flow, IsFlow}
 use Rattle.regress_engine_memory.proofs.EachState.{each-append}
-use Rattle.regress_engine_linear.specs.Ranks.{Ranking, AreRanked, AreRunning}
+use Rattle.regress_engine_linear.specs.Ranks.{Ranking, AreRanked, AreRunning, is_even}
 use Rattle.regress_engine_linear.proofs.EndsBeyond.{Leaves, after-each, behind-beyond, behind-lies, contents-leave}
 use Rattle.regress_engine_linear.proofs.Running.{running-behind, running-inside, running-step}
 
@@ -30,7 +30,7 @@ module _ (flow : Flow) (r : Ranking) (v : View) (all : AreOfKind v.kind v.units)
   Reads dir ts = (u : Whole) (i : Instruction) → Meets program (input_of v) dir ts u → Stands program u.at i → reads_character i ≡ true → ReadsPlaces (reading_of v) i u
 
   -- at the first instruction no loop is live
-  pub running-first : flow.calm 0 ≡ true → r.forward 0 ≡ true → ((id : ℕ) → flow.live 0 id ≡ true → ⊥) → (o : ℕ) → o ≤ last → Live Forward (first_state program o)
+  pub running-first : flow.calm 0 ≡ true → is_even (r.level 0) ≡ true → ((id : ℕ) → flow.live 0 id ≡ true → ⊥) → (o : ℕ) → o ≤ last → Live Forward (first_state program o)
   running-first calm forward silent o lies =
       record { inside = lies; calm = calm; way = ap direction_of forward; size = length-replicate program.loops (0, 0); loops = λ id l. absurd (silent id l) }
 

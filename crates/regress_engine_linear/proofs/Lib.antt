@@ -8,10 +8,10 @@ pub mod Ranking
 pub mod AnswerLemmas
 pub mod Formulas
 pub mod Within
-pub mod NextPlaces
 pub mod DecidingLinear
 pub mod ExitAnswers
 pub mod PassageLemmas
 pub mod WorkLemmas
-pub mod MixedLemmas
 pub mod ExitWays
+pub mod LevelLemmas
+pub mod BehindLemmas

@@ -12,18 +12,14 @@ use Rattle.regress_engine_runs.specs.Runs.{fields_of}
 use Rattle.regress_engine_memory.specs.Deciding.{Table, calm_at, flow_of, live_at}
 use Rattle.regress_engine_memory.specs.Needs.{taken_by}
 use Rattle.regress_engine_memory.proofs.TableLemmas.{each-passes}
-use Rattle.regress_engine_linear.specs.Ranks.{Lowers, asked_less, Inside, IsCycle, Ranks, AreRanked}
-use Rattle.regress_engine_linear.specs.RankTables.{Heights, rank_at, forward_at, outside_at, top_of, ranking_of, is_apart, is_read, leaves, lowers, turns, holds_inside, is_cycle, cycles, ranks, ranks_if_calm, are_ranked}
+use Rattle.regress_engine_linear.specs.Ranks.{Lowers, asked_less, Inside, IsCycle, Ranks, AreRanked, is_even}
+use Rattle.regress_engine_linear.specs.RankTables.{Heights, IsBefore, rank_at, forward_at, level_at, outside_at, top_of, ranking_of, is_apart, is_before, is_on, is_read, leaves, lowers, turns, holds_inside, is_cycle, cycles, ranks, ranks_if_calm, are_ranked}
 use Rattle.regress_engine_linear.proofs.Running.{fields-stand}
 
 -- what is not so, or another thing is, is another thing where it is so
 implied : (a b : Bool) → (not a || b) ≡ true → a ≡ true → b ≡ true
 implied true b e is = e
 implied false b e is = absurd (cc is)
-
-not-so : (a : Bool) → not a ≡ true → a ≡ false
-not-so true e = absurd (cc e)
-not-so false e = refl
 
 refuted : (a : Bool) → not a ≡ true → a ≡ true → ⊥
 refuted true e is = cc e
@@ -35,20 +31,34 @@ as-said false true e = absurd (cc e)
 as-said true false e = absurd (cc e)
 as-said false false e = refl
 
+-- what passes the test of one address before another is so
+pub before-so : (h : Heights) (a b : ℕ) → is_before h a b ≡ true → IsBefore h a b
+before-so h a b e = elim (or_cases (nat_lt (level_at h b) (level_at h a)) ((level_at h b == level_at h a) && nat_lt (rank_at h a) (rank_at h b)) e) [
+  | inl deeper ↦ inl (ltb-true (level_at h b) (level_at h a) deeper)
+  | inr lower ↦ inr (
+      let both = and_parts (level_at h b == level_at h a) (nat_lt (rank_at h a) (rank_at h b)) lower in
+      (eqb-true (level_at h b) (level_at h a) both.0, ltb-true (rank_at h a) (rank_at h b) both.1)
+      )
+]
+
 module _ (h : Heights) (t : Table) where
   read-so : (forward : Bool) (at : ℕ) → is_read h forward at ≡ true → (at < length h.ranks) × (forward_at h at ≡ forward)
   read-so forward at e =
       let both = and_parts (nat_lt at (length h.ranks)) (if forward then forward_at h at else not (forward_at h at)) e in
       (ltb-true at (length h.ranks) both.0, as-said (forward_at h at) forward both.1)
 
+  on-so : (level at : ℕ) → is_on h level at ≡ true → (at < length h.ranks) × (level_at h at ≡ level)
+  on-so level at e =
+      let both = and_parts (nat_lt at (length h.ranks)) (level_at h at == level) e in (ltb-true at (length h.ranks) both.0, eqb-true (level_at h at) level both.1)
+
   lowers-so : (taken from to : ℕ) → lowers h taken from to ≡ true → Lowers (ranking_of h) taken from to
   lowers-so taken from to e =
-      let both = and_parts (is_read h (forward_at h from) to) ((outside_at h to == outside_at h from) && (nat_lt 0 taken || nat_lt (rank_at h to) (rank_at h from))) e in
+      let both = and_parts (is_on h (level_at h from) to) ((outside_at h to == outside_at h from) && (nat_lt 0 taken || nat_lt (rank_at h to) (rank_at h from))) e in
       let more = and_parts (outside_at h to == outside_at h from) (nat_lt 0 taken || nat_lt (rank_at h to) (rank_at h from)) both.1 in
-      let read = read-so (forward_at h from) to both.0 in
+      let read = on-so (level_at h from) to both.0 in
       record {
         within = read.0;
-        way = read.1;
+        level = read.1;
         same = eqb-true (outside_at h to) (outside_at h from) more.0;
         rank = elim (or_cases (nat_lt 0 taken) (nat_lt (rank_at h to) (rank_at h from)) more.1) [
           | inl some ↦ inl (ltb-true 0 taken some)
@@ -71,13 +81,13 @@ module _ (h : Heights) (t : Table) where
       }
 
   turns-so : (kind : Submatch) (at continuation : ℕ) → turns h kind at continuation ≡ true
-      → (suc at < length h.ranks) × (direction_of (forward_at h (suc at)) ≡ submatch_direction kind (direction_of (forward_at h at))) × (kind ≡ atomic → outside_at h (suc at) ≡ continuation)
-  turns-so (lookaround negated true) at continuation e = let read = read-so false (suc at) e in (read.0, ap direction_of read.1, λ is. absurd (cc is))
-  turns-so (lookaround negated false) at continuation e = let read = read-so true (suc at) e in (read.0, ap direction_of read.1, λ is. absurd (cc is))
+      → (suc at < length h.ranks) × (direction_of (forward_at h (suc at)) ≡ submatch_direction kind (direction_of (forward_at h at))) × (kind ≡ atomic → outside_at h (suc at) ≡ continuation) × (kind ≡ atomic → level_at h (suc at) ≡ level_at h at)
+  turns-so (lookaround negated true) at continuation e = let read = read-so false (suc at) e in (read.0, ap direction_of read.1, λ is. absurd (cc is), λ is. absurd (cc is))
+  turns-so (lookaround negated false) at continuation e = let read = read-so true (suc at) e in (read.0, ap direction_of read.1, λ is. absurd (cc is), λ is. absurd (cc is))
   turns-so atomic at continuation e =
-      let both = and_parts (is_read h (forward_at h at) (suc at)) (outside_at h (suc at) == continuation) e in
-      let read = read-so (forward_at h at) (suc at) both.0 in
-      (read.0, ap direction_of read.1, λ is. eqb-true (outside_at h (suc at)) continuation both.1)
+      let both = and_parts (is_on h (level_at h at) (suc at)) (outside_at h (suc at) == continuation) e in
+      let read = on-so (level_at h at) (suc at) both.0 in
+      (read.0, ap (λ n. direction_of (is_even n)) read.1, λ is. eqb-true (outside_at h (suc at)) continuation both.1, λ is. read.1)
 
   leaves-so : (at : ℕ) → leaves h at ≡ true → outside_at h at < length h.ranks → rank_at h (outside_at h at) < rank_at h at
   leaves-so at e within = elim (or_cases (nat_le (length h.ranks) (outside_at h at)) (nat_lt (rank_at h (outside_at h at)) (rank_at h at)) e) [
@@ -92,13 +102,14 @@ module _ (h : Heights) (t : Table) where
       record {
         within = read.0;
         way = read.1;
-        rank = elim (or_cases (is_read h (forward_at h at) (suc at) && nat_lt (rank_at h (suc at)) (rank_at h at)) (forward_at h at && not (forward_at h (suc at))) both.1) [
+        rank = elim (or_cases (is_on h (level_at h at) (suc at) && nat_lt (rank_at h (suc at)) (rank_at h at)) (nat_lt (level_at h at) (level_at h (suc at))) both.1) [
           | inl lower ↦ inl (
-              let two = and_parts (is_read h (forward_at h at) (suc at)) (nat_lt (rank_at h (suc at)) (rank_at h at)) lower in
-              ((read-so (forward_at h at) (suc at) two.0).1, ltb-true (rank_at h (suc at)) (rank_at h at) two.1)
+              let two = and_parts (is_on h (level_at h at) (suc at)) (nat_lt (rank_at h (suc at)) (rank_at h at)) lower in
+              ((on-so (level_at h at) (suc at) two.0).1, ltb-true (rank_at h (suc at)) (rank_at h at) two.1)
               )
-          | inr turned ↦ inr (let two = and_parts (forward_at h at) (not (forward_at h (suc at))) turned in (two.0, not-so (forward_at h (suc at)) two.1))
+          | inr deeper ↦ inr (ltb-true (level_at h at) (level_at h (suc at)) deeper)
         ];
+        level = read.3;
         outside = read.2;
       }
 

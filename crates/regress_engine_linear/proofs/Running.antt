@@ -20,7 +20,7 @@ use Rattle.regress_engine_memory.specs.Under.{IsFurther}
 use Rattle.regress_engine_memory.proofs.EachState.{each-choices, each-again}
 use Rattle.regress_engine_memory.proofs.Onward.{Takes, room-less, takes-none, flows-unreferring}
 use Rattle.regress_engine_memory.proofs.Taking.{each-moved, each-single}
-use Rattle.regress_engine_linear.specs.Ranks.{Ranking, Lowers, IsBeyond, IsCycle, Ranks, AreRanked, IsRunning, AreRunning}
+use Rattle.regress_engine_linear.specs.Ranks.{Ranking, Lowers, IsBeyond, IsCycle, Ranks, AreRanked, IsRunning, AreRunning, is_even}
 use Rattle.regress_engine_linear.proofs.Within.{each-lies}
 
 -- where a repetition is told of an instruction it stands
@@ -83,12 +83,12 @@ module _ (flow : Flow) (r : Ranking) (program : Program) (last : ℕ) (dir : Dir
   Running s = AreRunning flow r program last dir s
 
   -- with the data of all loops as they are
-  pub running-beyond : (s : Whole) (to q : ℕ) (groups : List Marks) → Running s → Hands flow s.at to → r.forward to ≡ r.forward s.at → q ≤ last
+  pub running-beyond : (s : Whole) (to q : ℕ) (groups : List Marks) → Running s → Hands flow s.at to → r.level to ≡ r.level s.at → q ≤ last
       → IsBeyond r last dir s (whole to q s.loops groups) → Running (whole to q s.loops groups)
-  running-beyond s to q groups running hands way lies beyond = record {
+  running-beyond s to q groups running hands level lies beyond = record {
     inside = lies;
     calm = hands.calm;
-    way = ap direction_of way ∙ running.way;
+    way = ap (λ n. direction_of (is_even n)) level ∙ running.way;
     size = running.size;
     loops = λ id l. running-on r last dir s.at to s.offset q id (get_or s.loops id (0, 0)) beyond (running.loops id (hands.live id l));
   }
@@ -96,7 +96,7 @@ module _ (flow : Flow) (r : Ranking) (program : Program) (last : ℕ) (dir : Dir
   pub running-handed : (s : Whole) (taken to q : ℕ) (groups : List Marks) → Running s → Hands flow s.at to → Lowers r taken s.at to → Takes last dir taken s.offset q → q ≤ last
       → Running (record { at = to; offset = q; loops = s.loops; groups = groups })
   running-handed s taken to q groups running hands lowers takes lies =
-      running-beyond s to q groups running hands lowers.way lies (beyond-by r last dir taken s.at to s.offset q lowers takes)
+      running-beyond s to q groups running hands lowers.level lies (beyond-by r last dir taken s.at to s.offset q lowers takes)
 
   -- at the same offset
   running-there : (s : Whole) (to : ℕ) (groups : List Marks) → Running s → Hands flow s.at to → Lowers r 0 s.at to
@@ -116,7 +116,7 @@ module _ (flow : Flow) (r : Ranking) (program : Program) (last : ℕ) (dir : Dir
   running-written s id to ms size others running writes lowers new = record {
     inside = running.inside;
     calm = writes.calm;
-    way = ap direction_of lowers.way ∙ running.way;
+    way = ap (λ n. direction_of (is_even n)) lowers.level ∙ running.way;
     size = size;
     loops = λ k l. by_loop k l (cases_eq k id);
   }
@@ -298,4 +298,4 @@ module _ (flow : Flow) (r : Ranking) (v : View) (all : AreOfKind v.kind v.units)
     pub running-behind : (o : ℕ) (groups : List Marks) → o ≤ last → IsBeyond r last dir s (whole continuation o s.loops groups) → Live (whole continuation o s.loops groups)
     running-behind o groups lies beyond =
         running-beyond flow r program last dir s continuation o groups running (closed s.at (code.submatch kind low high continuation) running.calm here).1
-        (ranked s.at (code.submatch kind low high continuation) running.calm here).0.way lies beyond
+        (ranked s.at (code.submatch kind low high continuation) running.calm here).0.level lies beyond

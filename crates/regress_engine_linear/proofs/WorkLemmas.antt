@@ -2,7 +2,6 @@
 use Rattle.std.specs.Prelude.{IfSome, get_or}
 use Rattle.std.proofs.Common.{◌≡◌, ℕ, suc, ◌+◌, ◌<◌, ◌≤◌, ◌&&◌, ◌||◌, ◌==◌, Bool, true, false, List, [], length, Option, None, Some, refl, sym, ap, ap₂, ◌∙◌, subst, arith}
 use Rattle.std.proofs.lemmas.Bool.{eq-eqb, eqb-true}
-use Rattle.std.proofs.lemmas.Option.{slice_get_within}
 use Rattle.regress_meaning.specs.Meaning.{Direction, Forward, Backward}
 use Rattle.regress_engine_input.specs.Views.{View, input_of, reading_of}
 use Rattle.regress_engine_insn.specs.Instructions.{Instruction, Program, Stands}
@@ -107,4 +106,4 @@ room-end last Backward o low = omega (arith, low)
 
 -- a rank is less than their number
 pub rank-low : (h : Heights) → ArePlaced h (length h.ranks) → (at : ℕ) → at < length h.ranks → rank_at h at < length h.order
-rank-low h placed at there = slice_get_within h.order (rank_at h at) at (placed at there)
+rank-low h placed at there = placed.low at there

@@ -1,7 +1,7 @@
 pub mod Ranks
 pub mod RankTables
 pub mod Answered
+pub mod Levels
 pub mod Linear
 pub mod LinearTests
 pub mod LinearViews
-pub mod Places

@@ -1,15 +1,11 @@
 -- Programs of which a search takes time that grows as program and text do.
-use Rattle.std.specs.Prelude.{◌≡◌, ℕ, suc, ◌+◌, ◌-◌, ◌^◌, ◌<◌, ◌≤◌, ◌&&◌, ◌⊎◌, Bool, true, false, length, nat_le, nat_lt}
+use Rattle.std.specs.Prelude.{◌≡◌, ℕ, suc, ◌+◌, ◌-◌, ◌^◌, ◌<◌, ◌≤◌, ◌&&◌, ◌⊎◌, Bool, true, false, length, nat_le, nat_lt, List, [], ◌∷◌, Option, Some, if◌then◌else◌, slice_get}
 use Rattle.regress_front_nodes.specs.Trees.{Submatch, lookaround, atomic}
 use Rattle.regress_engine_insn.specs.Instructions.{LoopFields, Instruction, Program, Stands}
 use Rattle.regress_engine_insn.specs.Instructions as code
 use Rattle.regress_engine_memory.specs.Flow.{Flow, IsFlow}
 use Rattle.regress_engine_linear.specs.Ranks.{AreRanked}
 use Rattle.regress_engine_linear.specs.RankTables.{Heights, ArePlaced, forward_at, rank_at, ranking_of}
-
--- an address is there, has a rank, and is read forward, or backward
-abbrev pub IsDue : Heights → (forward : Bool) → (rank at : ℕ) → Type 0
-IsDue h forward rank at = (at < length h.ranks) × (forward_at h at ≡ forward) × (rank_at h at ≡ rank)
 
 -- so long is no text
 abbrev pub too_long : ℕ
@@ -19,44 +15,64 @@ too_long = 2 ^ 63
 abbrev pub IsUnboundedOrOnce : LoopFields → Type 0
 IsUnboundedOrOnce f = (too_long ≤ f.most) ⊎ (f.most ≡ 1)
 
--- a lookaround may stand inside of contents, and an atomic group where one may nest
-abbrev pub may_stand_inside : (nests : Bool) → Submatch → Bool
-may_stand_inside nests (lookaround negated backward) = true
-may_stand_inside nests atomic = nests
-
 -- An instruction at an address, inside of contents that end before another, is no repetition and refers to no group. It leads further, but not
--- past that end, and it writes groups of a range alone: from the first up to before the last. It is an atomic group only where one may nest.
-abbrev pub leads_through : (nests : Bool) → (first last end : ℕ) → (at : ℕ) → Instruction → Bool
-leads_through nests first last end at code.goal = true
-leads_through nests first last end at code.fail = true
-leads_through nests first last end at (code.back k icase) = false
-leads_through nests first last end at (code.enter_loop f) = false
-leads_through nests first last end at (code.loop_again begin) = false
-leads_through nests first last end at (code.single_loop least most greedy) = false
-leads_through nests first last end at (code.jump a) = nat_lt at a && nat_lt a end
-leads_through nests first last end at (code.alt a) = nat_lt (suc at) end && (nat_lt at a && nat_lt a end)
-leads_through nests first last end at (code.begin_group k) = nat_lt (suc at) end && (nat_le first k && nat_lt k last)
-leads_through nests first last end at (code.end_group k) = nat_lt (suc at) end && (nat_le first k && nat_lt k last)
-leads_through nests first last end at (code.reset_group k) = nat_lt (suc at) end && (nat_le first k && nat_lt k last)
-leads_through nests first last end at (code.submatch kind low high continuation) =
-    may_stand_inside nests kind && (nat_lt (suc at) end && ((nat_lt at continuation && nat_lt continuation end) && (nat_le first low && nat_le high last)))
-leads_through nests first last end at i = nat_lt (suc at) end
+-- past that end, and it writes groups of a range alone: from the first up to before the last. It is a loop of one character only where such
+-- may stand.
+abbrev pub leads_through : (singles : Bool) → (first last end : ℕ) → (at : ℕ) → Instruction → Bool
+leads_through singles first last end at code.goal = true
+leads_through singles first last end at code.fail = true
+leads_through singles first last end at (code.back k icase) = false
+leads_through singles first last end at (code.enter_loop f) = false
+leads_through singles first last end at (code.loop_again begin) = false
+leads_through singles first last end at (code.single_loop least most greedy) = singles && nat_lt (suc (suc at)) end
+leads_through singles first last end at (code.jump a) = nat_lt at a && nat_lt a end
+leads_through singles first last end at (code.alt a) = nat_lt (suc at) end && (nat_lt at a && nat_lt a end)
+leads_through singles first last end at (code.begin_group k) = nat_lt (suc at) end && (nat_le first k && nat_lt k last)
+leads_through singles first last end at (code.end_group k) = nat_lt (suc at) end && (nat_le first k && nat_lt k last)
+leads_through singles first last end at (code.reset_group k) = nat_lt (suc at) end && (nat_le first k && nat_lt k last)
+leads_through singles first last end at (code.submatch kind low high continuation) =
+    nat_lt (suc at) end && ((nat_lt at continuation && nat_lt continuation end) && (nat_le first low && nat_le high last))
+leads_through singles first last end at i = nat_lt (suc at) end
 
--- The contents of what is matched by itself have no loop: each way through them goes from the front to the back, and writes the groups inside
--- alone.
-pub record AreLoopFree (program : Program) (nests : Bool) (at first last continuation : ℕ) : Type 0 where
+-- The contents of what is matched by itself have no loop, but of one character where such may stand: each way through them goes from the front
+-- to the back, and writes the groups inside alone.
+pub record AreLoopFree (program : Program) (singles : Bool) (at first last continuation : ℕ) : Type 0 where
   pub some : suc at < continuation
-  pub leads : (b : ℕ) (i : Instruction) → at < b → b < continuation → Stands program b i → leads_through nests first last continuation b i ≡ true
+  pub leads : (b : ℕ) (i : Instruction) → at < b → b < continuation → Stands program b i → leads_through singles first last continuation b i ≡ true
+
+-- an instruction is the start of the text
+abbrev pub is_text_start : Option Instruction → Bool
+is_text_start (Some (code.line_start false)) = true
+is_text_start _ = false
+
+-- an instruction begins a repetition of more than one character
+abbrev pub repeats : Instruction → Bool
+repeats (code.enter_loop f) = true
+repeats _ = false
+
+-- the address behind the first instruction that does, where one stands from an address on, or the one behind the last
+abbrev pub behind_first : (at : ℕ) → List Instruction → ℕ
+behind_first at [] = at
+behind_first at (i ∷ is) = if repeats i then suc at else behind_first (suc at) is
+
+-- Up to this address each is visited at most once: a match begins at the start of the text alone, and no repetition begins before.
+abbrev pub once_until : Program → ℕ
+once_until program = if is_text_start (slice_get program.instructions 0) then behind_first 0 program.instructions else 0
+
+-- what stands at an address is visited at most once
+abbrev pub is_visited_once : Program → (at : ℕ) → Bool
+is_visited_once program at = nat_lt at (once_until program)
 
 -- At least as many ranks lie between where contents stand and where it goes on behind them as they have instructions.
 abbrev pub HaveRanks : Heights → (at continuation : ℕ) → Type 0
 HaveRanks h at continuation = rank_at h continuation + (continuation - at) ≤ rank_at h at
 
 -- What a lookaround leaves is where it stands: it is negated, no groups are inside, or its contents have no loop, so that a way through them is
--- as short as they are, and ranks lie between. The contents of an atomic group have none, and no atomic group inside.
+-- as short as they are, and ranks lie between. Where it is visited at most once they may have loops of one character. The contents of an atomic
+-- group have none.
 abbrev pub LeavesGroups : Heights → Program → (at : ℕ) → Submatch → (first last continuation : ℕ) → Type 0
 LeavesGroups h program at (lookaround true backward) first last continuation = Unit {0}
-LeavesGroups h program at (lookaround false backward) first last continuation = first < last → AreLoopFree program true at first last continuation × HaveRanks h at continuation
+LeavesGroups h program at (lookaround false backward) first last continuation = first < last → AreLoopFree program (is_visited_once program at) at first last continuation × HaveRanks h at continuation
 LeavesGroups h program at atomic first last continuation = AreLoopFree program false at first last continuation
 
 -- of a one-character loop there are few iterations at least, and few or any number at most

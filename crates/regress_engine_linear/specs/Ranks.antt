@@ -1,5 +1,5 @@
 -- Programs of which no run comes back to an address without taking something, so that it visits each address and offset once.
-use Rattle.std.specs.Prelude.{◌≡◌, ℕ, suc, ◌+◌, ◌<◌, ◌≤◌, ◌⊎◌, Bool, true, false, List, [], ◌∷◌, length, get_or}
+use Rattle.std.specs.Prelude.{◌≡◌, ℕ, suc, ◌+◌, ◌%◌, ◌==◌, ◌<◌, ◌≤◌, ◌⊎◌, Bool, true, List, [], ◌∷◌, length, get_or}
 use Rattle.regress_meaning.specs.Meaning.{Direction}
 use Rattle.regress_meaning.specs.Inputs.{Input}
 use Rattle.regress_front_nodes.specs.Trees.{Submatch, lookaround, atomic}
@@ -14,29 +14,38 @@ use Rattle.regress_engine_memory.specs.Flow.{Flow}
 use Rattle.regress_engine_memory.specs.Needs.{taken_by}
 use Rattle.regress_engine_memory.specs.Under.{IsFurther}
 
--- For each of so many addresses a rank, whether it is read forward, and where it goes on outside of the atomic group whose contents it is in,
--- or an address that is not there; for each loop the rank of where its body begins.
+-- For each of so many addresses a rank, its level, and where it goes on outside of the atomic group whose contents it is in, or an address that
+-- is not there; for each loop the rank of where its body begins. Contents that turn the direction are of a deeper level than where they stand.
 pub record Ranking : Type 0 where
   pub count : ℕ
   pub rank : ℕ → ℕ
-  pub forward : ℕ → Bool
+  pub level : ℕ → ℕ
   pub outside : ℕ → ℕ
   pub top : ℕ → ℕ
 
--- From an address it is led to another by taking at least so much: something, or the other is ranked lower. It is read as the first is, in the
+-- what is of an even level is read forward
+abbrev pub is_even : ℕ → Bool
+is_even level = (level % 2) == 0
+
+-- how an address is read
+abbrev pub way_in : Ranking → ℕ → Direction
+way_in r at = direction_of (is_even (r.level at))
+
+-- From an address it is led to another by taking at least so much: something, or the other is ranked lower. It is of the same level, in the
 -- same atomic group.
 pub record Lowers (r : Ranking) (taken from to : ℕ) : Type 0 where
   pub within : to < r.count
-  pub way : r.forward to ≡ r.forward from
+  pub level : r.level to ≡ r.level from
   pub same : r.outside to ≡ r.outside from
   pub rank : (1 ≤ taken) ⊎ (r.rank to < r.rank from)
 
--- The contents of a lookaround or an atomic group are read as their kind says: as what is around them, and then they are ranked lower than
--- where they stand; or backward where that is read forward. Outside of an atomic group it goes on behind it.
+-- The contents of a lookaround or an atomic group are read as their kind says. They are of the level of what is around them, and ranked lower
+-- than where they stand; or of a deeper level. Those of an atomic group are of the same, and outside of them it goes on behind it.
 pub record Inside (r : Ranking) (kind : Submatch) (at continuation : ℕ) : Type 0 where
   pub within : suc at < r.count
-  pub way : direction_of (r.forward (suc at)) ≡ submatch_direction kind (direction_of (r.forward at))
-  pub rank : ((r.forward (suc at) ≡ r.forward at) × (r.rank (suc at) < r.rank at)) ⊎ ((r.forward at ≡ true) × (r.forward (suc at) ≡ false))
+  pub way : way_in r (suc at) ≡ submatch_direction kind (way_in r at)
+  pub rank : ((r.level (suc at) ≡ r.level at) × (r.rank (suc at) < r.rank at)) ⊎ (r.level at < r.level (suc at))
+  pub level : kind ≡ atomic → r.level (suc at) ≡ r.level at
   pub outside : kind ≡ atomic → r.outside (suc at) ≡ continuation
 
 -- A repetition that begins at an address goes on from another: its body begins with its rank, and behind it its loop is not live.
@@ -84,7 +93,7 @@ pub record IsRunning (r : Ranking) (last : ℕ) (dir : Direction) (at o id : ℕ
 pub record AreRunning (flow : Flow) (r : Ranking) (program : Program) (last : ℕ) (dir : Direction) (s : Whole) : Type 0 where
   pub inside : s.offset ≤ last
   pub calm : flow.calm s.at ≡ true
-  pub way : direction_of (r.forward s.at) ≡ dir
+  pub way : way_in r s.at ≡ dir
   pub size : length s.loops ≡ program.loops
   pub loops : (id : ℕ) → flow.live s.at id ≡ true → IsRunning r last dir s.at s.offset id (get_or s.loops id (0, 0))
 

@@ -1,14 +1,29 @@
 //! The test that a way through the contents of lookarounds is as short as they are.
-ghost use Rattle.std.specs.Prelude.{◌≡◌, ◌&&◌, suc, ◌+◌, ◌-◌, ◌^◌, ◌<◌, length, map, nat_le, nat_lt};
+ghost use Rattle.std.specs.Prelude.{◌≡◌, ◌&&◌, suc, ◌+◌, ◌-◌, ◌^◌, ◌<◌, length, map, nat_le, nat_lt, ◌||◌, slice_get};
 ghost use Rattle.regress_engine_insn.specs.Instructions.{Program};
 ghost use Rattle.regress_engine_insn.specs.InsnViews.{instruction};
 ghost use Rattle.regress_engine_memory.specs.Passing.{all_pass};
-ghost use Rattle.regress_engine_linear.specs.Linear.{leads_through};
+ghost use Rattle.regress_engine_linear.specs.Linear.{is_text_start, leads_through, once_until, repeats};
 ghost use Rattle.regress_engine_linear.specs.LinearTests.{are_loop_free, have_ranks, leads_inside, leaves_groups};
 ghost use Rattle.regress_engine_linear.specs.RankTables.{heights_of, rank_at};
 
 use crate::ranks::RankTable;
 use regress_engine_insn::Insn;
+
+/// How long the contents of all atomic groups of a program that is told to be linear are together at most, for each of its addresses. What is
+/// told of an atomic group is worked out along its contents, also along those inside.
+pub const MOST_INSIDE: usize = 8;
+
+/// Whether the contents of all atomic groups are no longer than so many programs.
+pub(crate) fn are_short(insns: &[Insn]) -> bool {
+    let mut inside: usize = 0;
+    for at in 0..insns.len() {
+        if let Insn::Atomic { continuation, .. } = &insns[at] {
+            inside = inside.saturating_add((*continuation as usize).saturating_sub(at));
+        }
+    }
+    inside <= MOST_INSIDE.saturating_mul(insns.len())
+}
 
 /// The contents of a lookaround or an atomic group: they stand between two addresses, and groups from the first up to before the last are
 /// inside.
@@ -22,8 +37,38 @@ struct Passage {
     last: usize,
     /// The address behind them.
     end: usize,
-    /// Whether an atomic group may stand inside.
-    nests: bool,
+    /// Whether loops of one character may stand inside.
+    singles: bool,
+}
+
+/// Whether the program begins at the start of the text.
+fn begins_at_start(insns: &[Insn]) -> bool
+    ensures { result ≡ is_text_start (slice_get (map instruction insns.now) 0) }
+{
+    matches!(insns.first(), Some(Insn::StartOfLine { multiline: false }))
+}
+
+/// Whether an instruction begins a repetition of more than one character.
+fn repeats(insn: &Insn) -> bool
+    ensures { result ≡ repeats (instruction insn.now) }
+{
+    matches!(insn, Insn::EnterLoop(_))
+}
+
+/// The address up to which each is visited at most once: the one behind the first at which a repetition begins, if a match begins at the
+/// start of the text alone.
+pub(crate) fn once_until(insns: &[Insn]) -> usize
+    ensures { (program : Program) → program.instructions ≡ map instruction insns.now → result ≡ once_until program }
+{
+    if !begins_at_start(insns) {
+        return 0;
+    }
+    for at in 0..insns.len() {
+        if repeats(&insns[at]) {
+            return at + 1;
+        }
+    }
+    insns.len()
 }
 
 impl Passage {
@@ -57,17 +102,16 @@ impl Passage {
         at + 1 < self.end && (self.is_on(at, continuation) && self.holds_all(first, last))
     }
 
-    /// Whether an instruction at an address inside is no repetition, leads further and not past the end, and writes groups inside alone.
+    /// Whether an instruction at an address inside is no repetition, but of one character where such may stand, leads further and not past the
+    /// end, and writes groups inside alone.
     fn leads_through(&self, at: usize, insn: &Insn) -> bool
-        requires { at + 1 < 2 ^ 64 }
-        ensures { result ≡ leads_through self.now.nests self.now.first self.now.last self.now.end at (instruction insn.now) }
+        requires { at + 2 < 2 ^ 64 }
+        ensures { result ≡ leads_through self.now.singles self.now.first self.now.last self.now.end at (instruction insn.now) }
     {
         match insn {
             Insn::Goal | Insn::JustFail => true,
-            Insn::BackRef { .. }
-            | Insn::EnterLoop(_)
-            | Insn::LoopAgain { .. }
-            | Insn::Loop1CharBody { .. } => false,
+            Insn::BackRef { .. } | Insn::EnterLoop(_) | Insn::LoopAgain { .. } => false,
+            Insn::Loop1CharBody { .. } => self.singles && at + 2 < self.end,
             Insn::Jump { target } => self.is_on(at, *target as usize),
             Insn::Alt { secondary } => at + 1 < self.end && self.is_on(at, *secondary as usize),
             Insn::BeginCaptureGroup(group)
@@ -84,25 +128,17 @@ impl Passage {
                 end_group,
                 continuation,
                 ..
+            }
+            | Insn::Atomic {
+                start_group,
+                end_group,
+                continuation,
             } => self.holds_inside(
                 at,
                 *start_group as usize,
                 *end_group as usize,
                 *continuation as usize,
             ),
-            Insn::Atomic {
-                start_group,
-                end_group,
-                continuation,
-            } => {
-                self.nests
-                    && self.holds_inside(
-                        at,
-                        *start_group as usize,
-                        *end_group as usize,
-                        *continuation as usize,
-                    )
-            }
             _ => at + 1 < self.end,
         }
     }
@@ -111,7 +147,7 @@ impl Passage {
     fn lead_through(&self, insns: &[Insn]) -> bool
         requires { self.now.at < length insns.now }
         ensures { (program : Program) → program.instructions ≡ map instruction insns.now
-            → result ≡ all_pass (leads_inside self.now.nests self.now.at self.now.first self.now.last self.now.end) 0 program.instructions }
+            → result ≡ all_pass (leads_inside self.now.singles self.now.at self.now.first self.now.last self.now.end) 0 program.instructions }
     {
         for at in self.at + 1..self.end.min(insns.len()) {
             if !self.leads_through(at, &insns[at]) {
@@ -121,11 +157,11 @@ impl Passage {
         true
     }
 
-    /// Whether the contents have no loop.
+    /// Whether the contents have no loop, but of one character where such may stand.
     fn is_loop_free(&self, insns: &[Insn]) -> bool
         requires { self.now.at < length insns.now }
         ensures { (program : Program) → program.instructions ≡ map instruction insns.now
-            → result ≡ are_loop_free program self.now.nests self.now.at self.now.first self.now.last self.now.end }
+            → result ≡ are_loop_free program self.now.singles self.now.at self.now.first self.now.last self.now.end }
     {
         self.at + 1 < self.end && self.lead_through(insns)
     }
@@ -142,11 +178,11 @@ impl RankTable {
     }
 
     /// Whether what a lookaround or an atomic group at an address leaves is as it has to be: its contents have no loop, if they are gone
-    /// through, and those of a lookaround ranks enough.
-    fn leaves_groups(&self, insns: &[Insn], at: usize, insn: &Insn) -> bool
+    /// through, and those of a lookaround ranks enough. Up to another address each is visited at most once.
+    fn leaves_groups(&self, insns: &[Insn], once: usize, at: usize, insn: &Insn) -> bool
         requires { at < length insns.now }
         ensures { (program : Program) → program.instructions ≡ map instruction insns.now
-            → result ≡ leaves_groups (heights_of self.now) program at (instruction insn.now) }
+            → once ≡ once_until program → result ≡ leaves_groups (heights_of self.now) program at (instruction insn.now) }
     {
         match insn {
             Insn::Lookahead {
@@ -166,7 +202,7 @@ impl RankTable {
                     first: *start_group as usize,
                     last: *end_group as usize,
                     end: *continuation as usize,
-                    nests: true,
+                    singles: at < once,
                 };
                 passage.last <= passage.first
                     || (passage.is_loop_free(insns) && self.have_ranks(at, passage.end))
@@ -181,7 +217,7 @@ impl RankTable {
                     first: *start_group as usize,
                     last: *end_group as usize,
                     end: *continuation as usize,
-                    nests: false,
+                    singles: false,
                 };
                 passage.is_loop_free(insns)
             }
@@ -194,8 +230,9 @@ impl RankTable {
         ensures { (program : Program) → program.instructions ≡ map instruction insns.now
             → result ≡ all_pass (leaves_groups (heights_of self.now) program) 0 program.instructions }
     {
+        let once = once_until(insns);
         for at in 0..insns.len() {
-            if !self.leaves_groups(insns, at, &insns[at]) {
+            if !self.leaves_groups(insns, once, at, &insns[at]) {
                 return false;
             }
         }

@@ -5,6 +5,7 @@ ghost use Rattle.regress_engine_insn.specs.InsnViews.{instruction};
 ghost use Rattle.regress_engine_memory.specs.TableViews.{table_of};
 ghost use Rattle.regress_engine_linear.specs.RankTables.{ArePlaced, are_ranked, heights_of};
 
+use crate::contents::once_until;
 use crate::ranks::RankTable;
 use regress_engine_insn::Insn;
 use regress_engine_memory::{FlowTable, taken_by};
@@ -18,8 +19,8 @@ const MOST_ROUNDS: usize = 16;
 struct Contents {
     /// The address behind them.
     end: usize,
-    /// Whether they are read forward.
-    is_forward: bool,
+    /// Their level: they are read forward where it is even.
+    level: usize,
     /// Whether they are those of an atomic group.
     is_atomic: bool,
 }
@@ -34,22 +35,32 @@ fn leave(around: &mut Vec<Contents>, at: usize) {
     }
 }
 
-/// The contents that an instruction begins, where those around it are read forward or not.
-fn contents_of(insn: &Insn, is_forward: bool) -> Option<Contents> {
+/// The level of a lookaround's contents that are read forward or not, where it stands in what is of another: that level, or where the direction
+/// turns the next.
+fn level_inside(level: usize, is_forward: bool) -> usize {
+    if is_forward == (level % 2 == 0) {
+        level
+    } else {
+        level.saturating_add(1)
+    }
+}
+
+/// The contents that an instruction begins, which stands in what is of a level.
+fn contents_of(insn: &Insn, level: usize) -> Option<Contents> {
     match insn {
         Insn::Lookahead { continuation, .. } => Some(Contents {
             end: *continuation as usize,
-            is_forward: true,
+            level: level_inside(level, true),
             is_atomic: false,
         }),
         Insn::Lookbehind { continuation, .. } => Some(Contents {
             end: *continuation as usize,
-            is_forward: false,
+            level: level_inside(level, false),
             is_atomic: false,
         }),
         Insn::Atomic { continuation, .. } => Some(Contents {
             end: *continuation as usize,
-            is_forward,
+            level,
             is_atomic: true,
         }),
         _ => None,
@@ -64,21 +75,21 @@ fn contents_around(alloc: Global, insns: &[Insn]) -> Result<Vec<Option<Contents>
         leave(&mut around, at);
         let own = around.last().copied();
         innermost.push(own)?;
-        let is_forward = own.is_none_or(|contents| contents.is_forward);
-        if let Some(contents) = contents_of(&insns[at], is_forward) {
+        let level = own.map_or(0, |contents| contents.level);
+        if let Some(contents) = contents_of(&insns[at], level) {
             around.push(contents)?;
         }
     }
     Ok(innermost)
 }
 
-/// The addresses that are read forward.
-fn forward(alloc: Global, around: &[Option<Contents>]) -> Result<Vec<bool>, AllocError> {
-    let mut forward = Vec::new(alloc);
+/// The levels of all addresses.
+fn levels(alloc: Global, around: &[Option<Contents>]) -> Result<Vec<usize>, AllocError> {
+    let mut levels = Vec::new(alloc);
     for contents in around {
-        forward.push(contents.is_none_or(|contents| contents.is_forward))?;
+        levels.push(contents.map_or(0, |contents| contents.level))?;
     }
-    Ok(forward)
+    Ok(levels)
 }
 
 /// For each address where it goes on outside of the atomic group whose contents it is in, or the address behind the last.
@@ -93,13 +104,23 @@ fn outside(alloc: Global, around: &[Option<Contents>]) -> Result<Vec<usize>, All
     Ok(outside)
 }
 
-/// For each address the first from it on at which a repetition begins, or the address behind the last.
-fn next_loops(alloc: Global, insns: &[Insn]) -> Result<Vec<usize>, AllocError> {
+/// Whether an instruction begins a repetition, those of one character among them or not.
+fn begins_loop(insn: &Insn, singles: bool) -> bool {
+    match insn {
+        Insn::EnterLoop(_) => true,
+        Insn::Loop1CharBody { .. } => singles,
+        _ => false,
+    }
+}
+
+/// For each address the first from it on at which a repetition begins, those of one character among them or not, or the address behind the
+/// last.
+fn next_loops(alloc: Global, insns: &[Insn], singles: bool) -> Result<Vec<usize>, AllocError> {
     let mut next: Vec<usize> = Vec::new(alloc);
     let mut found = insns.len();
     next.resize(insns.len(), found)?;
     for at in (0..insns.len()).rev() {
-        if matches!(&insns[at], Insn::EnterLoop(_) | Insn::Loop1CharBody { .. }) {
+        if begins_loop(&insns[at], singles) {
             found = at;
         }
         if at < next.len() {
@@ -109,14 +130,21 @@ fn next_loops(alloc: Global, insns: &[Insn]) -> Result<Vec<usize>, AllocError> {
     Ok(next)
 }
 
-/// The addresses inside of contents of lookarounds in which no repetition begins.
+/// The addresses inside of contents of lookarounds in which no repetition begins, but of one character where they are visited at most once.
 fn loop_free(alloc: Global, insns: &[Insn]) -> Result<Vec<bool>, AllocError> {
-    let next = next_loops(alloc, insns)?;
+    let next_any = next_loops(alloc, insns, true)?;
+    let next_repetition = next_loops(alloc, insns, false)?;
+    let once = once_until(insns);
     let mut free = Vec::new(alloc);
     let mut end = 0;
     for at in 0..insns.len() {
         free.push(at < end)?;
-        if let Some(contents) = contents_of(&insns[at], true)
+        let next = if at < once {
+            &next_repetition
+        } else {
+            &next_any
+        };
+        if let Some(contents) = contents_of(&insns[at], 0)
             && !contents.is_atomic
             && at < next.len()
             && contents.end <= next[at]
@@ -167,8 +195,13 @@ fn suggested_rank(
                 _ => body,
             }
         }
-        Insn::Loop1CharBody { min_iters: 0, .. } => above(ranks, at.saturating_add(2)),
-        Insn::Loop1CharBody { .. } => 0,
+        Insn::Loop1CharBody { min_iters, .. } => {
+            if *min_iters > 0 && !is_free {
+                0
+            } else {
+                above(ranks, at.saturating_add(2))
+            }
+        }
         Insn::Lookahead { continuation, .. } | Insn::Lookbehind { continuation, .. } => {
             next.max(above(ranks, *continuation as usize))
         }
@@ -204,8 +237,8 @@ fn suggested_ranks(
     Ok(ranks)
 }
 
-/// The addresses of a program, those first to which the instructions of others may lead without taking anything.
-fn order(alloc: Global, insns: &[Insn], outside: &[usize]) -> Result<Vec<usize>, AllocError> {
+/// The addresses of a program by rank: those first to which the instructions of others may lead without taking anything.
+fn by_rank(alloc: Global, insns: &[Insn], outside: &[usize]) -> Result<Vec<usize>, AllocError> {
     let free = loop_free(alloc, insns)?;
     let mut ranks: Vec<usize> = Vec::new(alloc);
     for _ in 0..MOST_ROUNDS {
@@ -221,12 +254,20 @@ fn order(alloc: Global, insns: &[Insn], outside: &[usize]) -> Result<Vec<usize>,
     Ok(order)
 }
 
+/// The addresses in the order in which they are worked out, where they are given by rank: those of deeper levels first.
+fn order(alloc: Global, by_rank: &[usize], levels: &[usize]) -> Result<Vec<usize>, AllocError> {
+    let mut order: Vec<usize> = Vec::new(alloc);
+    order.extend_from_slice(by_rank)?;
+    order.sort_by_key(|at| usize::MAX.saturating_sub(above(levels, *at)))?;
+    Ok(order)
+}
+
 /// For each of some addresses its place among them.
-fn places(alloc: Global, order: &[usize]) -> Result<Vec<usize>, AllocError> {
+fn places(alloc: Global, addresses: &[usize]) -> Result<Vec<usize>, AllocError> {
     let mut places: Vec<usize> = Vec::new(alloc);
-    places.resize(order.len(), 0)?;
-    for place in 0..order.len() {
-        let at = order[place];
+    places.resize(addresses.len(), 0)?;
+    for place in 0..addresses.len() {
+        let at = addresses[place];
         if at < places.len() {
             places[at] = place;
         }
@@ -274,16 +315,29 @@ impl RankTable {
     {
         let around = contents_around(alloc, insns)?;
         let outside = outside(alloc, &around)?;
-        let order = order(alloc, insns, &outside)?;
-        let ranks = places(alloc, &order)?;
+        let levels = levels(alloc, &around)?;
+        let by_rank = by_rank(alloc, insns, &outside)?;
+        let order = order(alloc, &by_rank, &levels)?;
+        let ranks = places(alloc, &by_rank)?;
         let table = RankTable {
             tops: tops(alloc, insns, &ranks, loops)?,
-            forward: forward(alloc, &around)?,
+            indices: places(alloc, &order)?,
+            levels,
             outside,
             ranks,
             order,
         };
-        if table.are_placed(insns.len()) && table.are_ranked(flow, insns) {
+        let count = insns.len();
+        if !table.are_placed(count) {
+            return Ok(None);
+        }
+        if !table.are_there(count) {
+            return Ok(None);
+        }
+        if !table.are_ordered() {
+            return Ok(None);
+        }
+        if table.are_ranked(flow, insns) {
             Ok(Some(table))
         } else {
             Ok(None)

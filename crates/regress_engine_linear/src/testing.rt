@@ -1,14 +1,15 @@
 //! The test that a program is linear.
-ghost use Rattle.std.specs.Prelude.{◌≡◌, ◌==◌, ◌<◌, ◌&&◌, false, true, Some, slice_get, nat_lt, IfOk, IfSome, length, map};
+ghost use Rattle.std.specs.Prelude.{◌≡◌, ◌==◌, ◌&&◌, nat_lt, IfOk, IfSome, length, map};
 ghost use Rattle.regress_engine_insn.specs.Instructions.{Program};
 ghost use Rattle.regress_engine_insn.specs.InsnViews.{instruction};
 ghost use Rattle.regress_engine_memory.specs.Deciding.{flow_of, live_at};
 ghost use Rattle.regress_engine_memory.specs.Passing.{all_pass};
 ghost use Rattle.regress_engine_memory.specs.TableViews.{table_of};
-ghost use Rattle.regress_engine_linear.specs.Linear.{IsDue, IsLinear};
+ghost use Rattle.regress_engine_linear.specs.Linear.{IsLinear};
 ghost use Rattle.regress_engine_linear.specs.LinearTests.{fits_at, is_unbounded, may_stand};
 ghost use Rattle.regress_engine_linear.specs.RankTables.{forward_at, heights_of};
 
+use crate::contents::are_short;
 use crate::ranks::RankTable;
 use regress_engine_insn::Insn;
 use regress_engine_memory::FlowTable;
@@ -88,45 +89,8 @@ impl LinearTable {
             && self.ranks.order.len() == count
     }
 
-    /// How many addresses the program has.
-    ///
-    /// ```rust
-    /// let count = table.count();
-    /// ```
-    pub fn count(&self) -> usize
-        ensures { result ≡ length (heights_of self.now.ranks).order }
-    {
-        self.ranks.order.len()
-    }
-
-    /// The address of a rank.
-    ///
-    /// Asks that the rank is that of an address.
-    ///
-    /// ```rust
-    /// let lowest = table.address(0);
-    /// ```
-    pub fn address(&self, rank: usize) -> usize
-        requires { rank < length (heights_of self.now.ranks).order }
-        ensures { slice_get (heights_of self.now.ranks).order rank ≡ Some result }
-    {
-        self.ranks.order[rank]
-    }
-
-    /// Whether an address is there, has a rank, and is read forward, or backward.
-    ///
-    /// ```rust
-    /// let begins_last = table.is_due(true, table.count() - 1, 0);
-    /// ```
-    pub fn is_due(&self, forward: bool, rank: usize, at: usize) -> bool
-        ensures due { result ≡ true → IsDue (heights_of self.now.ranks) forward rank at }
-        ensures other { result ≡ false → IsDue (heights_of self.now.ranks) forward rank at → ⊥ }
-    {
-        self.ranks.is_read(forward, at) && self.ranks.rank(at) == rank
-    }
-
     /// The table of a program with so many loops, where the program is linear; `None` where it is not, or has more than `MOST_ADDRESSES`
-    /// addresses. It errs only where memory is refused.
+    /// addresses, or the contents of its atomic groups are too long together (`MOST_INSIDE`). It errs only where memory is refused.
     ///
     /// ```rust
     /// let table = LinearTable::of(alloc, program.insns(), program.loops() as usize)?;
@@ -139,7 +103,7 @@ impl LinearTable {
         ensures { IfOk result (λ found. IfSome found (λ table. (program : Program) → program.instructions ≡ map instruction insns.now
             → IsLinear (flow_of (table_of table.flow)) (heights_of table.ranks) program)) }
     {
-        if MOST_ADDRESSES < insns.len() {
+        if MOST_ADDRESSES < insns.len() || !are_short(insns) {
             return Ok(None);
         }
         let Some(flow) = FlowTable::of(alloc, insns, loops)? else {

@@ -6,3 +6,4 @@ pub mod PairLemmas
 pub mod SecondLemmas
 pub mod WordLemmas
 pub mod UnitLemmas
+pub mod UnitStarts

@@ -11,14 +11,16 @@ use Rattle.std.proofs.lemmas.Str.{encodes-chars}
 use Rattle.regress_meaning.specs.TableParts.{is_code_point}
 use Rattle.regress_meaning.specs.Offsets.{of_utf8, offset}
 use Rattle.regress_meaning.specs.Meaning.{Forward, is_some_and}
+use Rattle.regress_meaning.specs.Text.{holds}
 use Rattle.regress_front_bytes.specs.Bitmaps.{byte_bitmap_contains}
+use Rattle.regress_engine_scanning.specs.Units.{AreAscii}
 use Rattle.regress_front_bytes.proofs.TextLemmas.{chars-code_points}
 use Rattle.regress_front_sets.proofs.FirstByteLemmas.{lead}
 use Rattle.regress_front_nodes.specs.Trees.{Tree}
 use Rattle.regress_front_nodes.specs.TreeMeaning.{node_outcomes}
 use Rattle.regress_engine_prefix.specs.Choosing.{TellsPair, is_set, is_set_or_pair, IsOr}
 use Rattle.regress_engine_prefix.specs.Prefixes.{Holds, first_literal, Foretells}
-use Rattle.regress_engine_prefix.specs.Starts.{IsStartOf, HitsBoundaries, IsSequence, KeepsLiteral}
+use Rattle.regress_engine_prefix.specs.Starts.{IsStartOf, HitsBoundaries, IsSequence, KeepsAscii, KeepsLiteral}
 use Rattle.regress_engine_prefix.specs.declared.prefix.Prefix.{Prefix}
 use Rattle.regress_engine_prefix.specs.declared.prefix.Prefix.TheVariants.{Still, Unknown, Start, Bytes, First, Pair}
 use Rattle.regress_engine_prefix.specs.declared.start.StartPredicate.{StartPredicate}
@@ -52,13 +54,23 @@ pub utf8-small : (bytes : List ℕ) → IsUtf8 bytes → (k b : ℕ) → slice_g
 utf8-small bytes utf8 k b e =
     small-at bytes k b (subst (λ bs. list_all is_small bs ≡ true) (encodes-chars bytes utf8) (small-all (chars bytes) (chars-code_points bytes utf8))) e
 
--- tests that agree on bytes agree on those of UTF-8
-pub same-there : (bytes : List ℕ) → IsUtf8 bytes → (at : ℕ) (p q : ℕ → Bool) → ((b : ℕ) → b < 256 → p b ≡ q b) → is_some_and (slice_get bytes at) p ≡ is_some_and (slice_get bytes at) q
-same-there bytes utf8 at p q same = go (slice_get bytes at) refl
+-- tests that agree on bytes agree on those of a list of them
+same-small : (bytes : List ℕ) → ((k b : ℕ) → slice_get bytes k ≡ Some b → b < 256) → (at : ℕ) (p q : ℕ → Bool) → ((b : ℕ) → b < 256 → p b ≡ q b)
+    → is_some_and (slice_get bytes at) p ≡ is_some_and (slice_get bytes at) q
+same-small bytes small at p q same = go (slice_get bytes at) refl
   where
     go : (o : Option ℕ) → slice_get bytes at ≡ o → is_some_and o p ≡ is_some_and o q
     go None e = refl
-    go (Some b) e = same b (utf8-small bytes utf8 at b e)
+    go (Some b) e = same b (small at b e)
+
+-- as of those of UTF-8
+pub same-there : (bytes : List ℕ) → IsUtf8 bytes → (at : ℕ) (p q : ℕ → Bool) → ((b : ℕ) → b < 256 → p b ≡ q b) → is_some_and (slice_get bytes at) p ≡ is_some_and (slice_get bytes at) q
+same-there bytes utf8 at p q same = same-small bytes (utf8-small bytes utf8) at p q same
+
+-- and of those of characters
+pub same-points : (cs : List ℕ) → All is_code_point cs → (at : ℕ) (p q : ℕ → Bool) → ((b : ℕ) → b < 256 → p b ≡ q b)
+    → is_some_and (slice_get (encode_utf8_all cs) at) p ≡ is_some_and (slice_get (encode_utf8_all cs) at) q
+same-points cs points at p q same = same-small (encode_utf8_all cs) (λ k b. small-at (encode_utf8_all cs) k b (small-all cs points)) at p q same
 
 -- ---- where matches begin
 
@@ -133,6 +145,14 @@ set-passes (ByteNear _ _) e = absurd (cc)
 set-passes (variant.BytePair _) e = absurd (cc)
 set-passes (variant.WordStart _) e = absurd (cc)
 set-passes StartAnchored e = absurd (cc)
+
+-- nor of bytes below 0x80
+pub no-ascii : (start other : StartPredicate) (t : Tree) → is_set_or_pair start ≡ true → KeepsAscii t start → KeepsAscii t other
+no-ascii start other t set h = go (first_literal t) h
+  where
+    go : (o : Option (List ℕ)) → IfSome o (λ bs. 2 ≤ length bs → AreAscii (holds bs) → IsSequence start bs) → IfSome o (λ bs. 2 ≤ length bs → AreAscii (holds bs) → IsSequence other bs)
+    go None k = tt
+    go (Some bs) k = λ long low. absurd (no-sequence start bs set (k long low))
 
 -- what is found is so
 pub some-of : {A : Type 0} (P : A → Type 0) (found : Option A) → IfSome found P → (a : A) → found ≡ Some a → P a

@@ -239,4 +239,5 @@ near-characters set landmark t begins reach = record {
       let held = some-stands landmark context.text s (node_outcomes context t Forward s) some (reach.each context points s) in
       begins-both set landmark (encode_utf8_all (drop s.place context.text)) 0 (begins.each context points s some) (place-front landmark context.text s.place held.0);
   near = λ context points s some. (some-stands landmark context.text s (node_outcomes context t Forward s) some (reach.each context points s)).1;
+  apart = λ context points s some. tt;
 }

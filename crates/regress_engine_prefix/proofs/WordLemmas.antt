@@ -73,7 +73,7 @@ ascii-word table folded None e = absurd (cc)
 ascii-word table folded (Some c) e = rw e refl
 
 -- at a boundary in front of a word no word is before it
-no-word_before : (table : Table) (folded : Bool) (a b : Option ℕ) → differ table folded a b ≡ true → is_some_and b is_ascii_word ≡ true → is_some_and a is_ascii_word ≡ true → ⊥
+pub no-word_before : (table : Table) (folded : Bool) (a b : Option ℕ) → differ table folded a b ≡ true → is_some_and b is_ascii_word ≡ true → is_some_and a is_ascii_word ≡ true → ⊥
 no-word_before table folded a b d after before =
     let one = ascii-word table folded a before in
     let other = ascii-word table folded b after in

@@ -3,7 +3,7 @@ use Rattle.std.specs.Prelude.{◌≡◌, ℕ, ◌<◌, ◌⊎◌, Bool, true, fa
 use Rattle.regress_front_bytes.specs.Bitmaps.{byte_bitmap_contains}
 use Rattle.regress_front_nodes.specs.Trees.{Tree}
 use Rattle.regress_engine_scanning.specs.NibbleSets.{nibble_set_contains}
-use Rattle.regress_engine_prefix.specs.Starts.{IsStartOf, HitsBoundaries}
+use Rattle.regress_engine_prefix.specs.Starts.{BeginsCharacters, IsStartOf, HitsBoundaries}
 use Rattle.regress_engine_scanning.specs.declared.byte_pair.BytePair.{BytePair}
 use Rattle.regress_engine_scanning.specs.declared.word_start.WordStart.{WordStart}
 use Rattle.regress_engine_prefix.specs.declared.prefix.Prefix.{Prefix}
@@ -46,6 +46,10 @@ IsOrWord start word other = IsOr is_set_or_pair (λ w. variant.WordStart w) star
 -- wherever the tree has an outcome a word begins so
 abbrev pub BeginsWords : Tree → WordStart → Type 0
 BeginsWords t word = IsStartOf (variant.WordStart word) t
+
+-- wherever the tree has an outcome characters begin a word so
+abbrev pub BeginsWordCharacters : Tree → WordStart → Type 0
+BeginsWordCharacters t word = BeginsCharacters (variant.WordStart word) t
 
 -- wherever a word begins so is a boundary of characters
 abbrev pub StandAtBoundaries : WordStart → Type 0

@@ -9,10 +9,11 @@ use Rattle.regress_front_bytes.specs.Bitmaps.{byte_bitmap_contains}
 use Rattle.regress_front_nodes.specs.Trees.{Tree}
 use Rattle.regress_front_nodes.specs.TreeMeaning.{node_outcomes}
 use Rattle.regress_engine_scanning.specs.Units.{AreAscii}
-use Rattle.regress_engine_scanning.specs.BytePairs.{begins_pair}
+use Rattle.regress_engine_scanning.specs.BytePairs.{IsLowPair, begins_pair}
 use Rattle.regress_engine_prefix.specs.FirstBytes.{MayLead}
 use Rattle.regress_engine_scanning.specs.Landmarks.{IsLow, begins_by}
-use Rattle.regress_engine_scanning.specs.WordStarts.{begins_word}
+use Rattle.regress_engine_scanning.specs.NibbleSets.{nibble_set_contains}
+use Rattle.regress_engine_scanning.specs.WordStarts.{IsLowWord, begins_word, passes_before}
 use Rattle.regress_engine_prefix.specs.Reaches.{AreLowTo}
 use Rattle.regress_engine_prefix.specs.Prefixes.{Holds, first_literal, HasBytes}
 use Rattle.regress_engine_prefix.specs.declared.prefix.Prefix.{Prefix}
@@ -87,7 +88,7 @@ tells_bytes Arbitrary = false
 tells_bytes StartAnchored = false
 tells_bytes _ = true
 
--- each byte that it tells is below 0x80, and it tells no pair and no word: so it may be told of 16-bit units too
+-- each byte that it tells is below 0x80: so it may be told of 16-bit units too
 abbrev pub IsPlain : StartPredicate → Type 0
 IsPlain Arbitrary = Unit {0}
 IsPlain (ByteSet1 set) = AreAscii (holds set)
@@ -96,8 +97,8 @@ IsPlain (ByteSet3 set) = AreAscii (holds set)
 IsPlain (ByteSeq front) = AreAscii (holds front.items)
 IsPlain (ByteBracket set) = AreAscii (byte_bitmap_contains set)
 IsPlain (ByteNear set landmark) = AreAscii (byte_bitmap_contains set) × IsLow landmark
-IsPlain (variant.BytePair pair) = ⊥
-IsPlain (variant.WordStart word) = ⊥
+IsPlain (variant.BytePair pair) = IsLowPair pair
+IsPlain (variant.WordStart word) = IsLowWord word
 IsPlain StartAnchored = Unit {0}
 
 -- each byte of its set is one with which a character may begin
@@ -114,18 +115,26 @@ abbrev pub AreNear : StartPredicate → List ℕ → Type 0
 AreNear (ByteNear set landmark) points = AreLowTo landmark points
 AreNear _ points = Unit {0}
 
--- it tells a landmark
-abbrev pub tells_landmark : StartPredicate → Bool
-tells_landmark (ByteNear set landmark) = true
-tells_landmark _ = false
+-- no character of a word stands in front of a place, where it tells that words begin
+abbrev pub IsApart : StartPredicate → List ℕ → ℕ → Type 0
+IsApart (variant.WordStart word) points place = ¬ (passes_before (nibble_set_contains word.word) points place ≡ true)
+IsApart _ points place = Unit {0}
+
+-- it tells a landmark, or what stands in front
+abbrev pub tells_beside : StartPredicate → Bool
+tells_beside (ByteNear set landmark) = true
+tells_beside (variant.WordStart word) = true
+tells_beside _ = false
 
 -- In each text of code points the bytes of the characters from a place on begin so, wherever the tree has an outcome; a byte so
--- far on is so many characters on.
+-- far on is so many characters on; and what may not stand in front does not.
 pub record BeginsCharacters (start : StartPredicate) (t : Tree) : Type 0 where
   pub each : (context : Context) → All is_code_point context.text → (s : State) → node_outcomes context t Forward s ≢ []
       → BeginsAs start (encode_utf8_all (drop s.place context.text)) 0
   pub near : (context : Context) → All is_code_point context.text → (s : State) → node_outcomes context t Forward s ≢ []
       → AreNear start (drop s.place context.text)
+  pub apart : (context : Context) → All is_code_point context.text → (s : State) → node_outcomes context t Forward s ≢ []
+      → IsApart start context.text s.place
 
 -- A start predicate serves a tree, for a program of bytes or of units: the bytes begin so wherever the tree has an outcome, only
 -- where a character begins or the text ends they begin so, and for units it is plain, and characters begin so.

@@ -5,12 +5,13 @@ ghost use Rattle.regress_front_nodes.specs.Trees.{tree};
 ghost use Rattle.regress_front_nodes.specs.WellFormed.{IsWellFormed};
 ghost use Rattle.regress_engine_prefix.specs.Prefixes.{IsLawful, LeadsCharacters};
 ghost use Rattle.regress_engine_prefix.specs.Choosing.{TellsPair, IsOrPair, IsOrWord};
+ghost use Rattle.regress_engine_scanning.specs.BytePairs.{IsLowPair};
 ghost use Rattle.regress_engine_scanning.specs.Units.{AreAscii};
-ghost use Rattle.regress_engine_prefix.specs.Starts.{IsStartOf, SaysNoMore, HitsBoundaries, IsAnchoredOnlyIf, IsAtStart, HoldsAtStart, KeepsSequence, KeepsLiteral, IsSameStart, IsPlain, TellsLeads, KeepsAscii, BeginsCharacters, tells_landmark};
+ghost use Rattle.regress_engine_prefix.specs.Starts.{IsStartOf, SaysNoMore, HitsBoundaries, IsAnchoredOnlyIf, IsAtStart, HoldsAtStart, KeepsSequence, KeepsLiteral, IsSameStart, IsPlain, TellsLeads, KeepsAscii, BeginsCharacters, tells_beside};
 
 use crate::prefix::{Prefix, prefix_of};
 use crate::reach::{landmark_of, low_landmark_of};
-use crate::words::word_start_of;
+use crate::words::{low_word_start_of, word_start_of};
 use regress_engine_scanning::{
     BytePair, Landmark, NibbleSet, WordStart, are_ascii, is_beyond_ascii,
 };
@@ -70,10 +71,10 @@ impl StartPredicate {
         })
     }
 
-    /// Whether each byte that it tells is below 0x80. Asks that it tells no landmark.
+    /// Whether each byte that it tells is below 0x80. Asks that it tells but bytes that follow each other.
     fn is_plain(&self) -> bool
         requires leads { TellsLeads self.now }
-        requires near { tells_landmark self.now ≡ false }
+        requires near { tells_beside self.now ≡ false }
         ensures { IsTrue result ↔ IsPlain self.now }
     {
         match self {
@@ -83,17 +84,16 @@ impl StartPredicate {
             StartPredicate::ByteSet3(bytes) => are_ascii(bytes),
             StartPredicate::ByteSeq(bytes) => are_ascii(bytes),
             StartPredicate::ByteBracket(set) => !is_beyond_ascii(set),
-            StartPredicate::ByteNear(..)
-            | StartPredicate::BytePair(_)
-            | StartPredicate::WordStart(_) => false,
+            StartPredicate::BytePair(pair) => pair.is_ascii(),
+            StartPredicate::ByteNear(..) | StartPredicate::WordStart(_) => false,
         }
     }
 
-    /// What says the same of 16-bit units: the predicate itself where it is plain, else `Arbitrary`. Asks that it tells no
-    /// landmark.
+    /// What says the same of 16-bit units: the predicate itself where it is plain, else `Arbitrary`. Asks that it tells but bytes
+    /// that follow each other.
     fn for_units(self) -> StartPredicate
         requires leads { TellsLeads self }
-        requires near { tells_landmark self ≡ false }
+        requires near { tells_beside self ≡ false }
         ensures plain { IsPlain result }
         ensures kept { IsPlain self → result ≡ self }
         ensures either { (result ≡ self) ⊎ (result ≡ StartPredicate.Arbitrary) }
@@ -113,7 +113,7 @@ fn of_set(set: ByteBitmap) -> StartPredicate
     ensures begins { SaysNoMore result (Prefix.First set) }
     ensures boundary { HitsBoundaries result }
     ensures anchored { IsAnchoredOnlyIf ⊥ result }
-    ensures near { tells_landmark result ≡ false }
+    ensures near { tells_beside result ≡ false }
 {
     match set.count_bits() {
         0 => StartPredicate::Arbitrary,
@@ -133,7 +133,7 @@ fn of_prefix(prefix: Prefix, multiline: bool) -> StartPredicate
     ensures anchored { IsAnchoredOnlyIf (multiline ≡ false) result }
     ensures start { IsAnchoredOnlyIf (IsAtStart prefix) result }
     ensures sequence { KeepsSequence prefix result }
-    ensures near { tells_landmark result ≡ false }
+    ensures near { tells_beside result ≡ false }
 {
     match prefix {
         Prefix::Start if !multiline => StartPredicate::StartAnchored,
@@ -175,6 +175,15 @@ fn pair_of(prefix: &Prefix) -> Option<BytePair>
         first: NibbleSet::new(first)?,
         second: NibbleSet::new(second)?,
     })
+}
+
+/// The same, where all of these bytes are below 0x80.
+fn low_pair_of(prefix: &Prefix) -> Option<BytePair>
+    ensures tells { IfSome result (λ pair. TellsPair pair prefix.now) }
+    ensures low { IfSome result IsLowPair }
+{
+    let pair = pair_of(prefix)?;
+    if pair.is_ascii() { Some(pair) } else { None }
 }
 
 /// The same predicate, or of the bytes of a set those behind which another known byte stands.
@@ -306,6 +315,10 @@ pub fn predicate_for_units(alloc: Global, regex: &Regex) -> Result<StartPredicat
     ensures refused { IfErr result (λ e. e ≡ Error.OutOfMemory) }
 {
     let prefix = prefix_of(alloc, &regex.node)?;
+    let low_pair = low_pair_of(&prefix);
+    let low_word = low_word_start_of(&regex.node, &prefix);
     let start = of_prefix(prefix, regex.flags.multiline).for_units();
-    Ok(with_low_landmark(alloc, &regex.node, start)?)
+    let start = with_low_landmark(alloc, &regex.node, start)?;
+    let start = with_pair(start, low_pair);
+    Ok(with_word(start, low_word))
 }

@@ -3,7 +3,8 @@ ghost use Rattle.std.specs.Prelude.{◌≡◌, ℕ, ◌<◌, true, IfSome, IsTru
 ghost use Rattle.regress_front_bytes.specs.Bitmaps.{byte_bitmap_contains};
 ghost use Rattle.regress_front_nodes.specs.Trees.{tree};
 ghost use Rattle.regress_engine_prefix.specs.Prefixes.{Foretells};
-ghost use Rattle.regress_engine_prefix.specs.Choosing.{BeginsWords, StandAtBoundaries};
+ghost use Rattle.regress_engine_prefix.specs.Choosing.{BeginsWordCharacters, BeginsWords, StandAtBoundaries};
+ghost use Rattle.regress_engine_scanning.specs.WordStarts.{IsLowWord};
 ghost use Rattle.regress_engine_prefix.specs.WordEdges.{AsksBoundary, AreOfWords};
 
 use crate::prefix::Prefix;
@@ -65,6 +66,7 @@ pub(crate) fn word_start_of(node: &Node, prefix: &Prefix) -> Option<WordStart>
     requires { Foretells prefix.now (tree node.now) }
     ensures begins { IfSome result (BeginsWords (tree node.now)) }
     ensures boundary { IfSome result StandAtBoundaries }
+    ensures characters { IfSome result (λ word. IsLowWord word → BeginsWordCharacters (tree node.now) word) }
 {
     if !asks_boundary(node) {
         return None;
@@ -80,4 +82,16 @@ pub(crate) fn word_start_of(node: &Node, prefix: &Prefix) -> Option<WordStart>
         word,
         first: starts,
     })
+}
+
+/// The same, where all of these bytes are below 0x80.
+pub(crate) fn low_word_start_of(node: &Node, prefix: &Prefix) -> Option<WordStart>
+    requires { Foretells prefix.now (tree node.now) }
+    ensures begins { IfSome result (BeginsWords (tree node.now)) }
+    ensures boundary { IfSome result StandAtBoundaries }
+    ensures low { IfSome result IsLowWord }
+    ensures characters { IfSome result (BeginsWordCharacters (tree node.now)) }
+{
+    let word = word_start_of(node, prefix)?;
+    if word.is_ascii() { Some(word) } else { None }
 }

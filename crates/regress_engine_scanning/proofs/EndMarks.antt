@@ -30,10 +30,10 @@ module _ (first last apart : ℕ) (units : List ℕ) (at one other : ℕ) (room 
   end-marks k = (there, back)
     where
       begins : (bit_at one k ≡ 1) ↔ ((k < 32) × (is_some_and (slice_get units (at + k)) (holds (first ∷ [])) ≡ true))
-      begins = unit-marks (holds (first ∷ [])) units at one (omega (arith, room)) begun k
+      begins = unit-marks (holds (first ∷ [])) units at 32 one (omega (arith, room)) (omega arith) begun k
 
       ends : (bit_at other k ≡ 1) ↔ ((k < 32) × (is_some_and (slice_get units (at + apart + k)) (holds (last ∷ [])) ≡ true))
-      ends = unit-marks (holds (last ∷ [])) units (at + apart) other room ended k
+      ends = unit-marks (holds (last ∷ [])) units (at + apart) 32 other room (omega arith) ended k
 
       there : bit_at (bit_and one other) k ≡ 1 → (k < 32) × (has_ends first last apart units (at + k) ≡ true)
       there h =
@@ -53,7 +53,7 @@ module _ (first last apart : ℕ) (units : List ℕ) (at one other : ℕ) (room 
           let both = bit_at_and one other k in omega (arith, both, a, b)
 
   pub ends-small : bit_and one other < 2 ^ 64
-  ends-small = let small = mask-small (holds (first ∷ [])) units at one (omega (arith, room)) begun in omega (arith, small, and_le_l one other)
+  ends-small = let small = mask-small (holds (first ∷ [])) units at 32 one (omega (arith, room)) (omega arith) begun in omega (arith, small, and_le_l one other)
 
 -- what is taken is there
 take-there : (xs : List ℕ) (n i : ℕ) → i < n → slice_get (take n xs) i ≡ slice_get xs i

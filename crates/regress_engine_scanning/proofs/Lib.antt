@@ -7,3 +7,4 @@ pub mod PairMarks
 pub mod EndMarks
 pub mod WordMarks
 pub mod LandmarkLemmas
+pub mod NarrowLemmas

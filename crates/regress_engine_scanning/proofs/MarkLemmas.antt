@@ -26,6 +26,10 @@ module _ (P : ℕ → Type 0) (width offset from marked : ℕ) (low : offset ≤
           let none = clear (k - from) (omega (arith, late, under)) in
           absurd (omega (arith, one, none))
 
+  -- and it is one of so many
+  pub marked-inside : 0 < marked → marked < 2 ^ 64 → trailing_zeros w64 marked < width
+  marked-inside some fits = let (below, set, clear) = bit_at-trailing_zeros w64 marked some fits in ((tells (trailing_zeros w64 marked)).0 set).0
+
   -- with no mark there is none of them
   pub unmarked : marked ≡ 0 → (k : ℕ) → offset ≤ k → k < from + width → ¬ P k
   unmarked none k least under p = by_order (cases_lt k from)

@@ -1,13 +1,16 @@
 -- What sixteen bytes are tested for at once.
 use Rattle.std.specs.Prelude.{nat_eq}
-use Rattle.std.proofs.Common.{◌≡◌, ◌↔◌, ℕ, ◌+◌, ◌/◌, ◌%◌, ◌^◌, ◌<◌, ◌≤◌, ◌⊎◌, inl, inr, Bool, true, false, not, cond, List, length, take, get_or, map, replicate, refl, sym, ap, ◌∙◌, arith, w8, Fits, bit_and}
-use Rattle.std.specs.Int.{bit_at}
-use Rattle.std.specs.Simd.Lanes.{zip2, mask_l, top, chunk, Each1}
-use Rattle.std.proofs.lemmas.Bool.{cases_lt}
-use Rattle.std.proofs.lemmas.List.{get_or_past}
+use Rattle.std.proofs.Common.{◌≡◌, ℕ, ◌/◌, ◌%◌, ◌^◌, ◌<◌, ◌≤◌, ◌⊎◌, inl, inr, Bool, false, not, cond, List, length, take, get_or, map, replicate, refl, sym, ap, ◌∙◌, arith, w8, Fits, bit_and}
+use Rattle.std.specs.Int.Bits.{and_zero_r}
+use Rattle.std.specs.Simd.Lanes.{zip2, mask_l, top, Each1}
+use Rattle.std.proofs.lemmas.Bool.{cases_lt, true≢false}
+use Rattle.std.proofs.lemmas.Grind.{same_number_lists}
+use Rattle.std.proofs.lemmas.List.{get_or-map, get_or_past, length-map}
 use Rattle.std.proofs.lemmas.Nat.{and_mask}
-use Rattle.std.proofs.lemmas.Simd.{SwzOk, SwzOk-from_below, Each1-from_get_or, Each1-get_or, length-zip2, get_or-zip2, get_or-replicate, length-chunk, get_or-chunk, length-swz_l, get_or-swz_l_below, swz_l, bitmask_splat, bit_mask_l}
-use Rattle.std.proofs.Math.ListN.{get_or-map}
+use Rattle.std.proofs.lemmas.Simd.{SwzOk, SwzOk-from_below, Each1-from_get_or, Each1-get_or, length-zip2, get_or-zip2, get_or-replicate, get_or-chunk, length-swz_l, get_or-swz_l_below, swz_l, bitmask_splat, map-map}
+use Rattle.regress_engine_scanning.specs.NibbleSets.{nibble_set_contains}
+use Rattle.regress_engine_scanning.specs.Units.{AreAscii}
+use Rattle.regress_engine_scanning.specs.declared.nibble_set.NibbleSet.{NibbleSet}
 
 -- ---- halves of bytes
 
@@ -61,18 +64,17 @@ differs a b = not (nat_eq a b)
 abbrev tables_met : List ℕ → List ℕ → List ℕ → List ℕ
 tables_met low high v = zip2 bit_and (swz_l w8 16 (take 16 low) 0 (lows v)) (swz_l w8 16 (take 16 high) 0 (highs v))
 
-set-tells : (b : Bool) → (cond {A = ℕ} b 1 0 ≡ 1) ↔ (b ≡ true)
-set-tells true = (λ h. refl, λ h. refl)
-set-tells false = (λ h. absurd (omega arith), λ h. absurd (cc))
-
 module _ (low high v : List ℕ) (long : length v ≡ 16) (fit : Each1 (Fits w8) v) where
+  abbrev both : ℕ → ℕ
+  both b = bit_and (get_or low (b % 16) 0) (get_or high (b / 16) 0)
+
   length-met : length (tables_met low high v) ≡ 16
   length-met =
       let a = length-swz_l w8 16 (take 16 low) 0 (lows v) ∙ length-lows v long in
       let b = length-swz_l w8 16 (take 16 high) 0 (highs v) ∙ length-highs v long in
       length-zip2 bit_and (swz_l w8 16 (take 16 low) 0 (lows v)) (swz_l w8 16 (take 16 high) 0 (highs v)) (a ∙ sym b) ∙ a
 
-  met-at : (m : ℕ) → m < 16 → get_or (tables_met low high v) m 0 ≡ bit_and (get_or low (get_or v m 0 % 16) 0) (get_or high (get_or v m 0 / 16) 0)
+  met-at : (m : ℕ) → m < 16 → get_or (tables_met low high v) m 0 ≡ both (get_or v m 0)
   met-at m l =
       let a = length-swz_l w8 16 (take 16 low) 0 (lows v) ∙ length-lows v long in
       let b = length-swz_l w8 16 (take 16 high) 0 (highs v) ∙ length-highs v long in
@@ -80,29 +82,27 @@ module _ (low high v : List ℕ) (long : length v ≡ 16) (fit : Each1 (Fits w8)
       ∙ ap (λ x. bit_and x (get_or (swz_l w8 16 (take 16 high) 0 (highs v)) m 0)) (look-up low (lows v) m (length-lows v long) l (low-small v long m l) ∙ ap (λ k. get_or low k 0) (low-at v long m l))
       ∙ ap (bit_and (get_or low (get_or v m 0 % 16) 0)) (look-up high (highs v) m (length-highs v long) l (high-small v long fit m l) ∙ ap (λ k. get_or high k 0) (high-at v long m l))
 
-  -- a bit of the mask of lanes that are not 0
-  pub mask-tells : (k : ℕ) → (bit_at (mask_l (map (top 7) (zip2 (λ a b. cond (differs a b) 255 0) (tables_met low high v) (replicate 16 0))) % 2 ^ 64) k ≡ 1)
-      ↔ ((k < 16) × (differs (bit_and (get_or low (get_or v k 0 % 16) 0) (get_or high (get_or v k 0 / 16) 0)) 0 ≡ true))
-  mask-tells k =
-      let met = tables_met low high v in
-      let bits = mask_l (map (top 7) (zip2 (λ a b. cond (differs a b) 255 0) met (replicate 16 0))) % 2 ^ 64 in
-      let e : bit_at bits k ≡ cond (differs (get_or met k 0) 0) 1 0 =
-      ap (λ m. bit_at m k) (bitmask_splat w8 differs met 16 0 length-met (omega arith)) ∙ bit_mask_l (map (λ x. differs x 0) met) k ∙ ap (λ b. cond b 1 0) (get_or-map (λ x. differs x 0) met k 0) in
-      let t = set-tells (differs (get_or met k 0) 0) in (
-        λ h. by_place (cases_lt k 16) (t.0 (sym e ∙ h)),
-        λ h. e ∙ t.1 (ap (λ x. differs x 0) (met-at k h.0) ∙ h.1),
-      )
-    where
-      by_place : (k < 16) ⊎ (16 ≤ k) → differs (get_or (tables_met low high v) k 0) 0 ≡ true
-          → (k < 16) × (differs (bit_and (get_or low (get_or v k 0 % 16) 0) (get_or high (get_or v k 0 / 16) 0)) 0 ≡ true)
-      by_place (inl l) h = (l, sym (ap (λ x. differs x 0) (met-at k l)) ∙ h)
-      by_place (inr past) h = absurd (let gone = ap (λ x. differs x 0) (get_or_past (tables_met low high v) k 0 (omega (arith, past, length-met))) in cc)
+  met-is : tables_met low high v ≡ map both v
+  met-is =
+      same_number_lists (tables_met low high v) (map both v) (length-met ∙ sym (length-map v both ∙ long))
+      (λ k l. met-at k (omega (arith, l, length-met)) ∙ sym (get_or-map both v k 0 0 (omega (arith, l, length-met, long))))
 
--- and so of sixteen bytes of a text
-pub marks-tell : (text low high : List ℕ) (from : ℕ) → from + 16 ≤ length text → Each1 (Fits w8) (chunk from 16 text) → (k : ℕ)
-    → (bit_at (mask_l (map (top 7) (zip2 (λ a b. cond (differs a b) 255 0) (tables_met low high (chunk from 16 text)) (replicate 16 0))) % 2 ^ 64) k ≡ 1)
-    ↔ ((k < 16) × (differs (bit_and (get_or low (get_or text (from + k) 0 % 16) 0) (get_or high (get_or text (from + k) 0 / 16) 0)) 0 ≡ true))
-marks-tell text low high from room fit k =
-    let tells = mask-tells low high (chunk from 16 text) (length-chunk from 16 text room) fit k in
-    let same = λ (l : k < 16). ap (λ x. differs (bit_and (get_or low (x % 16) 0) (get_or high (x / 16) 0)) 0) (get_or-chunk from 16 text k 0 l) in
-    (λ h. let found = tells.0 h in (found.0, sym (same found.0) ∙ found.1), λ h. tells.1 (h.0, same h.0 ∙ h.1))
+  -- the mask of lanes that are not 0 tells the members
+  pub table-marks : mask_l (map (top 7) (zip2 (λ a b. cond (differs a b) 255 0) (tables_met low high v) (replicate 16 0))) % 2 ^ 64 ≡ mask_l (map (λ b. differs (both b) 0) v)
+  table-marks =
+      bitmask_splat w8 differs (tables_met low high v) 16 0 length-met (omega arith) ∙ ap mask_l (ap (map (λ x. differs x 0)) met-is ∙ map-map (λ x. differs x 0) both v)
+
+-- the tables end at 256
+pub tables-end : (low high : List ℕ) (b : ℕ) → length high ≡ 16 → ¬ (b < 256) → false ≡ differs (bit_and (get_or low (b % 16) 0) (get_or high (b / 16) 0)) 0
+tables-end low high b size past =
+    let none : get_or high (b / 16) 0 ≡ 0 = get_or_past high (b / 16) 0 (omega (arith, size, past)) in
+    sym (ap (λ x. differs x 0) (ap (bit_and (get_or low (b % 16) 0)) none ∙ and_zero_r (get_or low (b % 16) 0)))
+
+-- where no byte from 0x80 on is a member, all members are below it
+pub low-members : (set : NibbleSet) → length set.high ≡ 16 → ((b : ℕ) → 0x80 ≤ b → b < 256 → nibble_set_contains set b ≡ false) → AreAscii (nibble_set_contains set)
+low-members set size none b held = by_order (cases_lt b 0x80) (cases_lt b 256)
+  where
+    by_order : (b < 0x80) ⊎ (0x80 ≤ b) → (b < 256) ⊎ (256 ≤ b) → b < 0x80
+    by_order (inl low) other = low
+    by_order (inr past) (inl small) = absurd (true≢false (sym held ∙ none b past small))
+    by_order (inr past) (inr beyond) = absurd (true≢false (sym held ∙ sym (tables-end set.low set.high b size (λ small. omega (arith, small, beyond)))))

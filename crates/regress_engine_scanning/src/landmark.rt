@@ -1,5 +1,5 @@
 //! A byte that stands by each match, and where it leads.
-ghost use Rattle.std.specs.Prelude.{◌≡◌, ◌-◌, ◌<◌, ◌≤◌, ℕ, ⊤, true, false, Some, length, map, slice_get, IfSome};
+ghost use Rattle.std.specs.Prelude.{◌≡◌, ◌-◌, ◌<◌, ◌≤◌, ℕ, true, false, length, map, slice_get, IfSome};
 ghost use Rattle.memchr.specs.Find.{IsFirst};
 ghost use Rattle.regress_meaning.specs.Meaning.{is_some_and};
 ghost use Rattle.regress_front_bytes.specs.declared.bitmaps.ByteBitmap.{ByteBitmap};
@@ -8,8 +8,7 @@ ghost use Rattle.regress_engine_scanning.specs.Least.{IsLeast};
 ghost use Rattle.regress_engine_scanning.specs.Landmarks.{IsLow, begins_by};
 ghost use Rattle.regress_engine_scanning.specs.Units.{AreAscii};
 
-use crate::units::{find_member, is_byte_of};
-use memchr::memchr;
+use crate::unit::Unit;
 use regress_front_bytes::ByteBitmap;
 
 /// A byte that stands by each match.
@@ -21,73 +20,21 @@ pub enum Landmark {
     BehindRun { run: ByteBitmap, byte: u8 },
 }
 
-/// A unit of a text, a byte or 16 bits. Each byte is the unit of the same number.
-trait Unit: Copy {
-    // the number of a unit
-    ghost number: { Self → ℕ };
-
-    // what a set of bytes must meet, so that units can be looked up in it
-    ghost Fits: { ByteBitmap → Type 0 };
-
-    /// Where a byte first stands from an index on.
-    fn next(byte: u8, units: &[Self], from: usize) -> Option<usize>
-        requires { from ≤ length units.now }
-        ensures least { IsLeast (λ k. slice_get (map number units.now) k ≡ Some byte) from result }
-        ensures inside { IfSome result (λ k. k < length units.now) };
-
-    /// Whether a unit is a byte of a set.
-    fn is_in(self, set: &ByteBitmap) -> bool
-        requires { Fits set.now }
-        ensures { result ≡ byte_bitmap_contains set.now (number self) };
-}
-
-impl Unit for u8 {
-    ghost number = { λ unit. unit };
-
-    ghost Fits = { λ _. ⊤ };
-
-    fn next(byte: u8, units: &[u8], from: usize) -> Option<usize> {
-        let index = memchr(byte, &units[from..])?;
-        Some(from + index)
-    }
-
-    #[inline(always)]
-    fn is_in(self, set: &ByteBitmap) -> bool {
-        set.contains(self)
-    }
-}
-
-impl Unit for u16 {
-    ghost number = { λ unit. unit };
-
-    ghost Fits = { λ set. AreAscii (byte_bitmap_contains set) };
-
-    #[inline(always)]
-    fn next(byte: u8, units: &[u16], from: usize) -> Option<usize> {
-        find_member(&[byte], units, from)
-    }
-
-    #[inline(always)]
-    fn is_in(self, set: &ByteBitmap) -> bool {
-        is_byte_of(set, self)
-    }
-}
-
 /// Whether a byte of a set stands at an index.
 #[inline(always)]
 fn stands_at<U: Unit>(set: &ByteBitmap, units: &[U], index: usize) -> bool
-    requires { U.Fits set.now }
+    requires { U.Fits (byte_bitmap_contains set.now) }
     ensures { result ≡ is_some_and (slice_get (map U.number units.now) index) (byte_bitmap_contains set.now) }
 {
     match units.get(index) {
-        Some(unit) => unit.is_in(set),
+        Some(unit) => set.contains(unit.narrowed()),
         None => false,
     }
 }
 
 /// Where a byte of a set first stands from an index up to another.
 fn first_in<U: Unit>(set: &ByteBitmap, units: &[U], from: usize, to: usize) -> Option<usize>
-    requires fits { U.Fits set.now }
+    requires fits { U.Fits (byte_bitmap_contains set.now) }
     requires inside { (from ≤ to) × (to ≤ length units.now) }
     ensures { IsFirst (λ k. is_some_and (slice_get (map U.number units.now) k) (byte_bitmap_contains set.now) ≡ true) from to result }
 {
@@ -107,7 +54,7 @@ fn find_ahead<U: Unit>(
     units: &[U],
     offset: usize,
 ) -> Option<usize>
-    requires fits { U.Fits first.now }
+    requires fits { U.Fits (byte_bitmap_contains first.now) }
     requires inside { offset ≤ length units.now }
     ensures { IsLeast (λ k. begins_by first.now (Landmark.Ahead distance byte) (map U.number units.now) k ≡ true) offset result }
 {
@@ -127,7 +74,7 @@ fn find_ahead<U: Unit>(
 
 /// From where on the units up to an index are all of a set, but for those in front of another index.
 fn run_start<U: Unit>(run: &ByteBitmap, units: &[U], from: usize, to: usize) -> usize
-    requires fits { U.Fits run.now }
+    requires fits { U.Fits (byte_bitmap_contains run.now) }
     requires inside { (from ≤ to) × (to ≤ length units.now) }
     ensures inside { (from ≤ result) × (result ≤ to) }
     ensures run { (j : ℕ) → result ≤ j → j < to → is_some_and (slice_get (map U.number units.now) j) (byte_bitmap_contains run.now) ≡ true }
@@ -151,8 +98,8 @@ fn find_run<U: Unit>(
     units: &[U],
     offset: usize,
 ) -> Option<usize>
-    requires fits { U.Fits first.now }
-    requires run { U.Fits run }
+    requires fits { U.Fits (byte_bitmap_contains first.now) }
+    requires run { U.Fits (byte_bitmap_contains run) }
     requires inside { offset ≤ length units.now }
     ensures { IsLeast (λ k. begins_by first.now (Landmark.BehindRun run byte) (map U.number units.now) k ≡ true) offset result }
 {
@@ -174,8 +121,8 @@ fn find<U: Unit>(
     units: &[U],
     offset: usize,
 ) -> Option<usize>
-    requires fits { U.Fits first.now }
-    requires run { (run : ByteBitmap) (byte : ℕ) → landmark ≡ Landmark.BehindRun run byte → U.Fits run }
+    requires fits { U.Fits (byte_bitmap_contains first.now) }
+    requires run { (run : ByteBitmap) (byte : ℕ) → landmark ≡ Landmark.BehindRun run byte → U.Fits (byte_bitmap_contains run) }
     requires inside { offset ≤ length units.now }
     ensures { IsLeast (λ k. begins_by first.now landmark (map U.number units.now) k ≡ true) offset result }
 {

@@ -5,6 +5,7 @@ mod byte_pair;
 mod bytes;
 mod landmark;
 mod nibble_set;
+mod unit;
 mod units;
 mod word_start;
 
@@ -12,5 +13,5 @@ pub use byte_pair::BytePair;
 pub use bytes::{are_ascii, find_one, find_three, find_two, is_beyond_ascii};
 pub use landmark::{Landmark, find_near, find_near_units};
 pub use nibble_set::NibbleSet;
-pub use units::{UnitSet, find_byte_of, find_member, find_sequence};
+pub use units::{OrBeyondAscii, UnitSet, find_byte_of, find_member, find_sequence};
 pub use word_start::WordStart;

@@ -1,10 +1,13 @@
 //! Sets of bytes for which sixteen bytes are tested at once.
-ghost use Rattle.std.specs.Prelude.{◌≡◌, ◌↔◌, ℕ, ◌+◌, ◌<◌, ◌≤◌, true, length, slice_get, slice_index, IfSome, IsTrue};
+ghost use Rattle.std.specs.Prelude.{◌≡◌, ◌↔◌, ℕ, ◌+◌, ◌<◌, ◌≤◌, true, length, map, slice_get, slice_index, IfSome, IsTrue};
+ghost use Rattle.std.specs.Simd.Lanes.{mask_l};
 ghost use Rattle.std.specs.Int.{bit_at};
 ghost use Rattle.regress_meaning.specs.Meaning.{is_some_and};
 ghost use Rattle.regress_front_bytes.specs.Bitmaps.{byte_bitmap_contains};
 ghost use Rattle.regress_engine_scanning.specs.NibbleSets.{nibble_set_contains};
+ghost use Rattle.regress_engine_scanning.specs.Units.{AreAscii};
 
+use crate::unit::Unit;
 use regress_front_bytes::ByteBitmap;
 use std::simd::prelude::*;
 
@@ -97,6 +100,18 @@ impl NibbleSet {
         true
     }
 
+    /// Whether each member is below 0x80: of the set of `b"ab"` each is.
+    pub fn is_ascii(&self) -> bool
+        ensures { IsTrue result ↔ AreAscii (nibble_set_contains self.now) }
+    {
+        for byte in 0x80..=u8::MAX {
+            if self.contains(byte) {
+                return false;
+            }
+        }
+        true
+    }
+
     /// Whether a byte is a member: the set of `b"ab"` has `b'b'`.
     pub fn contains(&self, byte: u8) -> bool
         ensures { result ≡ nibble_set_contains self.now byte }
@@ -105,24 +120,33 @@ impl NibbleSet {
     }
 
     /// Whether a member stands at an index.
-    pub(crate) fn stands_at(&self, text: &[u8], index: usize) -> bool
-        ensures { result ≡ is_some_and (slice_get text.now index) (nibble_set_contains self.now) }
+    pub(crate) fn stands_at<U: Unit>(&self, units: &[U], index: usize) -> bool
+        requires { U.Fits (nibble_set_contains self.now) }
+        ensures { result ≡ is_some_and (slice_get (map U.number units.now) index) (nibble_set_contains self.now) }
     {
-        match text.get(index) {
-            Some(byte) => self.contains(*byte),
+        match units.get(index) {
+            Some(unit) => self.contains(unit.narrowed()),
             None => false,
         }
     }
 
-    /// Which of sixteen bytes from an index on are members: bit k is that of the byte k further on.
+    /// Which of sixteen bytes are members, a bit for each.
     #[inline(always)]
-    pub(crate) fn marks(&self, text: &[u8], from: usize) -> u64
-        requires { from + 16 ≤ length text.now }
-        ensures { (k : ℕ) → (bit_at result k ≡ 1) ↔ ((k < 16) × (nibble_set_contains self.now (slice_index text.now (from + k)) ≡ true)) }
+    fn marks_of(&self, bytes: u8x16) -> u64
+        ensures { result ≡ mask_l (map (nibble_set_contains self.now) bytes) }
     {
-        let bytes = u8x16::from_slice(&text[from..]);
         let low = u8x16::from_slice(&self.low).swizzle_dyn(bytes & u8x16::splat(15));
         let high = u8x16::from_slice(&self.high).swizzle_dyn(bytes >> u8x16::splat(4));
         (low & high).simd_ne(u8x16::splat(0)).to_bitmask()
+    }
+
+    /// Which of sixteen units from an index on are members: bit k is that of the unit k further on.
+    #[inline(always)]
+    pub(crate) fn marks<U: Unit>(&self, units: &[U], from: usize) -> u64
+        requires fits { U.Fits (nibble_set_contains self.now) }
+        requires room { from + 16 ≤ length units.now }
+        ensures { (k : ℕ) → (bit_at result k ≡ 1) ↔ ((k < 16) × (nibble_set_contains self.now (slice_index (map U.number units.now) (from + k)) ≡ true)) }
+    {
+        self.marks_of(U::narrowed_from(units, from))
     }
 }

@@ -1,5 +1,6 @@
 //! Searches among 16-bit units for bytes, each of which is the unit of the same number.
-ghost use Rattle.std.specs.Prelude.{◌≡◌, ◌↔◌, ◌<◌, ◌≤◌, ℕ, Bool, true, length, map, take, drop, IfSome, IsTrue};
+ghost use Rattle.std.specs.Prelude.{◌≡◌, ◌↔◌, ◌<◌, ◌≤◌, ◌+◌, ◌||◌, ℕ, Bool, true, nat_le, length, map, take, drop, IfSome, IsTrue};
+ghost use Rattle.std.specs.Int.{bit_at};
 ghost use Rattle.std.specs.Simd.Lanes.{mask_l};
 ghost use Rattle.memchr.specs.Find.{OccursAt};
 ghost use Rattle.regress_meaning.specs.Text.{holds};
@@ -7,6 +8,7 @@ ghost use Rattle.regress_front_bytes.specs.Bitmaps.{byte_bitmap_contains};
 ghost use Rattle.regress_engine_scanning.specs.Least.{IsLeast};
 ghost use Rattle.regress_engine_scanning.specs.Units.{AreAscii, IsNextUnit, has_ends};
 
+use crate::unit::Unit;
 use regress_front_bytes::ByteBitmap;
 use std::simd::prelude::*;
 
@@ -78,6 +80,29 @@ impl UnitSet for [u8; 3] {
     }
 }
 
+/// Three bytes, and all units beyond ASCII.
+#[derive(Clone, Copy, Debug)]
+pub struct OrBeyondAscii(pub [u8; 3]);
+
+impl UnitSet for OrBeyondAscii {
+    ghost contains = { λ set unit. holds set.0 unit || nat_le 0x80 unit };
+
+    #[inline(always)]
+    fn contains(&self, unit: u16) -> bool {
+        let OrBeyondAscii(bytes) = self;
+        UnitSet::contains(bytes, unit) || 0x80 <= unit
+    }
+
+    #[inline(always)]
+    fn marks(&self, units: u16x32) -> u64 {
+        let OrBeyondAscii([first, second, third]) = *self;
+        (units.simd_eq(u16x32::splat(u16::from(first)))
+            | units.simd_eq(u16x32::splat(u16::from(second)))
+            | units.simd_eq(u16x32::splat(u16::from(third)))
+            | units.simd_ge(u16x32::splat(0x80))).to_bitmask()
+    }
+}
+
 /// Where a member first stands from an index on, by one unit after another.
 fn first_from<Set: UnitSet>(set: &Set, units: &[u16], from: usize) -> Option<usize>
     requires { from ≤ length units.now }
@@ -114,18 +139,6 @@ pub fn find_member<Set: UnitSet>(set: &Set, units: &[u16], from: usize) -> Optio
     first_from(set, units, at)
 }
 
-/// Whether a unit is a byte of a set, all of whose bytes are below 0x80.
-#[inline(always)]
-pub(crate) fn is_byte_of(set: &ByteBitmap, unit: u16) -> bool
-    requires { AreAscii (byte_bitmap_contains set.now) }
-    ensures { result ≡ byte_bitmap_contains set.now unit }
-{
-    match u8::try_from(unit) {
-        Ok(byte) => set.contains(byte),
-        Err(_) => false,
-    }
-}
-
 /// Where a byte of a set first stands from an index on. Asks that all bytes of the set are below 0x80, and that the index lies
 /// among the units.
 ///
@@ -138,7 +151,7 @@ pub fn find_byte_of(set: &ByteBitmap, units: &[u16], from: usize) -> Option<usiz
     ensures { IsNextUnit (byte_bitmap_contains set.now) units.now from result }
 {
     for index in from..units.len() {
-        if is_byte_of(set, units[index]) {
+        if set.contains(units[index].narrowed()) {
             return Some(index);
         }
     }
@@ -185,6 +198,36 @@ fn first_ends(first: u8, last: u8, apart: usize, units: &[u16], from: usize) -> 
     None
 }
 
+/// Which of 32 indices from one on have a byte there, and another so far behind it: a bit for each.
+#[inline(always)]
+fn ends_marked(first: u8, last: u8, apart: usize, units: &[u16], at: usize) -> u64
+    requires { at + apart + 32 ≤ length units.now }
+    ensures { (k : ℕ) → (bit_at result k ≡ 1) ↔ ((k < 32) × (has_ends first last apart units.now (at + k) ≡ true)) }
+{
+    let begun = [first].marks(u16x32::from_slice(&units[at..]));
+    let ended = [last].marks(u16x32::from_slice(&units[at + apart..]));
+    begun & ended
+}
+
+/// An index up to which no byte stands that has another so far behind it, by twice as many units at once.
+#[inline(always)]
+fn pass_ends(first: u8, last: u8, apart: usize, units: &[u16], from: usize) -> usize
+    requires { from ≤ length units.now }
+    ensures inside { (from ≤ result) × (result ≤ length units.now) }
+    ensures none { (k : ℕ) → from ≤ k → k < result → ¬ (has_ends first last apart units.now k ≡ true) }
+{
+    let mut at = from;
+    while units.len() - at >= 2 * LANES && units.len() - at - 2 * LANES >= apart {
+        let near = ends_marked(first, last, apart, units, at);
+        let far = ends_marked(first, last, apart, units, at + LANES);
+        if near | far != 0 {
+            break;
+        }
+        at += 2 * LANES;
+    }
+    at
+}
+
 /// The same by many units at once: a text has the first byte of a sequence at many places, and hardly ever the last as far behind it.
 #[inline(always)]
 fn find_ends(first: u8, last: u8, apart: usize, units: &[u16], from: usize) -> Option<usize>
@@ -192,11 +235,9 @@ fn find_ends(first: u8, last: u8, apart: usize, units: &[u16], from: usize) -> O
     ensures least { IsLeast (λ k. has_ends first last apart units.now k ≡ true) from result }
     ensures inside { IfSome result (λ k. k < length units.now) }
 {
-    let mut at = from;
+    let mut at = pass_ends(first, last, apart, units, from);
     while units.len() - at >= LANES && units.len() - at - LANES >= apart {
-        let begun = [first].marks(u16x32::from_slice(&units[at..]));
-        let ended = [last].marks(u16x32::from_slice(&units[at + apart..]));
-        let marks = begun & ended;
+        let marks = ends_marked(first, last, apart, units, at);
         if marks != 0 {
             return Some(at + marks.trailing_zeros() as usize);
         }

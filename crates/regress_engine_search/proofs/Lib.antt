@@ -14,3 +14,7 @@ pub mod ProducerLemmas
 pub mod AgreeLemmas
 pub mod ByteTexts
 pub mod ExecutorLemmas
+pub mod FrontUnits
+pub mod UnitsBegin
+pub mod NextPlaces
+pub mod MixedLemmas

@@ -6,7 +6,6 @@ use Rattle.std.specs.declared.ops.Range.{Range}
 use Rattle.std.proofs.Common.{◌≡◌, ℕ, zero, suc, ◌<◌, ◌≤◌, ◌⊎◌, inl, inr, ◌==◌, Bool, true, false, List, [], ◌∷◌, length, Option, Some, None, if◌then◌else◌, refl, sym, ap, ◌∙◌, subst, arith}
 use Rattle.std.proofs.lemmas.Bool.{cases_lt, cond_both, le-leb, lt-leb}
 use Rattle.std.proofs.Math.Logic.{∥∥₁_map}
-use Rattle.regress_meaning.specs.Table.{Table}
 use Rattle.regress_meaning.specs.Meaning.{Forward}
 use Rattle.regress_meaning.specs.Inputs.{Input, context_of}
 use Rattle.regress_meaning.specs.Matches.{Item}
@@ -20,7 +19,7 @@ use Rattle.regress_match.specs.TextRanges.{LiesBetween, LiesInText}
 use Rattle.regress_match.specs.Iterating.{coming_on}
 use Rattle.regress_front_bytes.proofs.TextLemmas.{offset-le}
 use Rattle.regress_match.proofs.TakenLemmas.{of_groups}
-use Rattle.regress_engine_input.specs.Views.{View, Kind, utf8, ascii, utf16, ucs2, are_bytes, input_of_kind, AreOfKind, input_of, reading_of, reading_of_kind}
+use Rattle.regress_engine_input.specs.Views.{View, Kind, are_bytes, AreOfKind, input_of, reading_of, reading_of_kind}
 use Rattle.regress_engine_input.proofs.KindLemmas.{tells, tells_bytes}
 use Rattle.regress_engine_insn.specs.Instructions.{Program}
 use Rattle.regress_engine_code.specs.Standing.{program_of, target_of}

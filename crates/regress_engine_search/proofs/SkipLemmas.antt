@@ -20,7 +20,7 @@ use Rattle.regress_engine_input.specs.Views.{View, Kind, utf8, ascii, utf16, ucs
 use Rattle.regress_engine_input.proofs.KindLemmas.{tells, tells_bytes as bytes-told}
 use Rattle.regress_engine_input.proofs.UnitTexts.{single_offset}
 use Rattle.regress_engine_input.proofs.LowUnits.{low-read, low-place}
-use Rattle.regress_engine_prefix.proofs.UnitLemmas.{units-begin, low-hit}
+use Rattle.regress_engine_search.proofs.UnitsBegin.{units-begin, low-hit}
 use Rattle.regress_engine_prefix.specs.Starts.{BeginsAs, is_arbitrary, tells_bytes, HoldsAtStart, HitsBoundaries, IsPlain, Serves}
 use Rattle.regress_engine_prefix.specs.declared.start.StartPredicate.{StartPredicate}
 use Rattle.regress_engine_prefix.specs.declared.start.StartPredicate.TheVariants.{Arbitrary, ByteSet1, ByteSet2, ByteSet3, ByteSeq, ByteBracket, ByteNear, BytePair, WordStart, StartAnchored}
@@ -34,6 +34,7 @@ use Rattle.regress_engine_runs.proofs.Computed.{computed-runs, one_run}
 use Rattle.regress_engine_runs.proofs.ItemLemmas.{skips}
 use Rattle.regress_engine_runs.proofs.WholeTree.{runs_as_tree}
 use Rattle.regress_engine_matchers.proofs.ViewLemmas.{view_reads}
+use Rattle.regress_engine_search.proofs.FrontUnits.{front-units}
 use Rattle.regress_engine_search.proofs.PlaceLemmas.{can-read, end-is}
 use Rattle.regress_engine_search.specs.Answering.{FindsOn}
 use Rattle.regress_engine_search.specs.Search.{IsSearchable}
@@ -92,9 +93,10 @@ module _ (t : Tree) (start : StartPredicate) (table : Table) (unicode units : Bo
 
   -- where the characters begin so, the units that hold them do
   by_units : (kind : Kind) (held : List ℕ) → AreOfKind kind held → are_bytes kind ≡ false → units ≡ true → (s : State)
+      → s.place ≤ length (reading_of_kind kind held).points
       → node_outcomes (context_of (reading_of_kind kind held) (input_of_kind kind table unicode held)) t Forward s ≢ []
       → BeginsAs start held (offset (reading_of_kind kind held) s.place)
-  by_units kind held all are is s some = by_bytes (tells_bytes start) refl
+  by_units kind held all are is s room some = by_bytes (tells_bytes start) refl
     where
       points : All is_code_point (reading_of_kind kind held).points
       points = (tells kind table unicode held all).points
@@ -102,7 +104,8 @@ module _ (t : Tree) (start : StartPredicate) (table : Table) (unicode units : Bo
       by_bytes : (b : Bool) → tells_bytes start ≡ b → BeginsAs start held (offset (reading_of_kind kind held) s.place)
       by_bytes true e =
           units-begin (reading_of_kind kind held).points held (λ p. offset (reading_of_kind kind held) p) points (low-read kind held all are) start (serves.plain is) e s.place
-          ((serves.characters is).near _ points s some) ((serves.characters is).each _ points s some)
+          (front-units kind table unicode held all are s.place room) ((serves.characters is).near _ points s some) ((serves.characters is).apart _ points s some)
+          ((serves.characters is).each _ points s some)
       by_bytes false e = without_bytes start e serves.first (reading_of_kind kind held) _ points s some held
 
   pub outcomes-begin : (kind : Kind) (bytes : List ℕ) → AreOfKind kind bytes → are_bytes kind ≡ not units → (s : State) → s.place ≤ length (reading_of_kind kind bytes).points
@@ -112,8 +115,8 @@ module _ (t : Tree) (start : StartPredicate) (table : Table) (unicode units : Bo
   outcomes-begin ascii bytes all same s room some =
       subst (BeginsAs start bytes) (ascii-offset bytes all s.place room ∙ sym (single_offset bytes s.place room))
       (serves.begins.each bytes (IsUtf8-from_ascii bytes all) _ (sym (chars-IsAscii bytes all)) s some)
-  outcomes-begin utf16 bytes all same s room some = by_units utf16 bytes all refl (not-units units same) s some
-  outcomes-begin ucs2 bytes all same s room some = by_units ucs2 bytes all refl (not-units units same) s some
+  outcomes-begin utf16 bytes all same s room some = by_units utf16 bytes all refl (not-units units same) s room some
+  outcomes-begin ucs2 bytes all same s room some = by_units ucs2 bytes all refl (not-units units same) s room some
 
 -- what may be cut in bytes is a place
 cut-place : (kind : Kind) (bytes : List ℕ) → AreOfKind kind bytes → are_bytes kind ≡ true → (o : ℕ) → (IsUtf8 bytes → IsCharBoundary bytes o) → IsAtPlace (reading_of_kind kind bytes) o

@@ -11,3 +11,4 @@ pub mod SearchProps
 pub mod Searching
 pub mod Budgets
 pub mod Ending
+pub mod Places

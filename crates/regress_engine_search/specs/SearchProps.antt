@@ -205,8 +205,8 @@ IsPlain-prop (ByteSet3 set) = Π_prop (λ b. Π_prop (λ held. le_prop))
 IsPlain-prop (ByteSeq front) = Π_prop (λ b. Π_prop (λ held. le_prop))
 IsPlain-prop (ByteBracket set) = Π_prop (λ b. Π_prop (λ held. le_prop))
 IsPlain-prop (ByteNear set landmark) = ×_prop (Π_prop (λ b. Π_prop (λ held. le_prop))) (IsLow-prop landmark)
-IsPlain-prop (BytePair pair) = λ x y. absurd x
-IsPlain-prop (WordStart word) = λ x y. absurd x
+IsPlain-prop (BytePair pair) = ×_prop (Π_prop (λ b. Π_prop (λ held. le_prop))) (Π_prop (λ b. Π_prop (λ held. le_prop)))
+IsPlain-prop (WordStart word) = ×_prop (Π_prop (λ b. Π_prop (λ held. le_prop))) (Π_prop (λ b. Π_prop (λ held. le_prop)))
 IsPlain-prop StartAnchored = Unit-prop
 
 pub MaySkip-prop : (program : Program) (start : StartPredicate) (v : View) → IsProp (MaySkip program start v)

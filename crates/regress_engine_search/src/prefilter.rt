@@ -122,9 +122,9 @@ impl<'r> Prefilter<'r> {
             StartPredicate::ByteNear(set, landmark) => {
                 find_near_units(set, *landmark, text, offset)
             }
-            StartPredicate::Arbitrary
-            | StartPredicate::BytePair(_)
-            | StartPredicate::WordStart(_) => Some(offset),
+            StartPredicate::BytePair(pair) => pair.find_units(text, offset),
+            StartPredicate::WordStart(word) => word.find_units(text, offset),
+            StartPredicate::Arbitrary => Some(offset),
         }
     }
 }

@@ -1,7 +1,6 @@
 -- Characters of ASCII that stand ahead, one after another.
 use Rattle.std.specs.Prelude.{slice_index, get_or, ◌==◌}
-use Rattle.std.specs.List.{list_any}
-use Rattle.std.proofs.Common.{◌≡◌, ◌⊎◌, inl, inr, ℕ, zero, suc, ◌+◌, ◌-◌, ◌<◌, ◌≤◌, Bool, true, false, not, List, [], ◌∷◌, length, take, drop, length-take, length-drop, Option, Some, None, if◌then◌else◌, refl, sym, ap, ◌∙◌, subst, arith}
+use Rattle.std.proofs.Common.{◌≡◌, ◌⊎◌, inl, inr, ℕ, suc, ◌+◌, ◌-◌, ◌<◌, ◌≤◌, Bool, true, false, not, List, [], ◌∷◌, length, take, drop, length-take, length-drop, Some, None, if◌then◌else◌, refl, sym, ap, ◌∙◌, subst, arith}
 use Rattle.std.proofs.lemmas.Bool.{cases_lt, eq-eqb}
 use Rattle.std.proofs.lemmas.Bool.Decides.{nat_tests}
 use Rattle.std.proofs.lemmas.List.{get_or-take, get_or-drop}
@@ -10,14 +9,14 @@ use Rattle.std.proofs.lemmas.Option.{slice_get-get_or}
 use Rattle.regress_meaning.specs.Meaning.{Forward, is_line_end}
 use Rattle.regress_meaning.specs.Text.{holds}
 use Rattle.regress_meaning.specs.Steps.{passed}
-use Rattle.regress_engine_input.specs.Views.{View, are_bytes, input_of}
+use Rattle.regress_engine_input.specs.Views.{View, input_of}
 use Rattle.regress_engine_scanning.specs.Units.{AreAscii}
 use Rattle.regress_engine_singles.specs.Passing.{IsAsciiAhead, StopsAt}
 use Rattle.regress_engine_singles.proofs.ByteLemmas.{unit-next}
 
--- a byte of ASCII that stands in bytes is the character ahead
-pub ascii-ahead : (v : View) → are_bytes v.kind ≡ true → (o : ℕ) → o < length v.units → slice_index v.units o < 0x80 → IsAsciiAhead v o
-ascii-ahead v are o inside low = record { low = low; next = unit-next v.kind v.table v.unicode v.units (slice_index v.units o) o low (slice_get-get_or v.units o 0 inside) }
+-- a byte of ASCII is the character ahead, and so is a unit
+pub ascii-ahead : (v : View) (o : ℕ) → o < length v.units → slice_index v.units o < 0x80 → IsAsciiAhead v o
+ascii-ahead v o inside low = record { low = low; next = unit-next v.kind v.table v.unicode v.units (slice_index v.units o) o low (slice_get-get_or v.units o 0 inside) }
 
 -- it passes where its number does
 pub ascii-passes : (v : View) (passes : ℕ → Bool) (o : ℕ) → IsAsciiAhead v o → passes (slice_index v.units o) ≡ true → Some (suc o) ≡ passed passes ((input_of v).next Forward o)
@@ -68,7 +67,7 @@ module _ (v : View) (stops : List ℕ) (passes : ℕ → Bool) (others : (c : �
       by_test true f = absurd (cc f)
 
 -- so does each up to where one of these stands, where all are of ASCII
-module _ (v : View) (are : are_bytes v.kind ≡ true) (bytes : List ℕ) (same : bytes ≡ v.units) (stops : List ℕ) (o end far : ℕ)
+module _ (v : View) (bytes : List ℕ) (same : bytes ≡ v.units) (stops : List ℕ) (o end far : ℕ)
     (at : StopsAt stops (take end bytes) o far) (low : AreAscii (holds (take (far - o) (drop o bytes)))) where
   pub stopped-ascii : (k : ℕ) → o ≤ k → k < far → IsAsciiAhead v k
   stopped-ascii k from less =
@@ -76,7 +75,7 @@ module _ (v : View) (are : are_bytes v.kind ≡ true) (bytes : List ℕ) (same :
       let room = at.room in
       let inside : k < length bytes = omega (arith, size, room, less) in
       let small : slice_index bytes k < 0x80 = part-low bytes o far (omega (arith, size, room)) low k from less in
-      ascii-ahead v are k (subst (λ (us : List ℕ). k < length us) same inside) (subst (λ (us : List ℕ). slice_index us k < 0x80) same small)
+      ascii-ahead v k (subst (λ (us : List ℕ). k < length us) same inside) (subst (λ (us : List ℕ). slice_index us k < 0x80) same small)
 
   pub stopped-each : (passes : ℕ → Bool) → ((c : ℕ) → passes c ≡ not (holds stops c)) → (k : ℕ) → o ≤ k → k < far → Some (suc k) ≡ passed passes ((input_of v).next Forward k)
   stopped-each passes others k from less =
@@ -86,6 +85,23 @@ module _ (v : View) (are : are_bytes v.kind ≡ true) (bytes : List ℕ) (same :
       let here : slice_index (take end bytes) k ≡ slice_index bytes k = get_or-take end bytes k 0 inside in
       let other : holds stops (slice_index bytes k) ≡ false = ap (holds stops) (sym here) ∙ at.none k from less in
       other-passes v stops passes others k (stopped-ascii k from less) (subst (λ (us : List ℕ). holds stops (slice_index us k) ≡ false) same other)
+
+-- and each unit up to the next that is one of these or beyond ASCII
+module _ (v : View) (units : List ℕ) (same : units ≡ v.units) (stops : List ℕ) (o end far : ℕ) (room : far ≤ length (take end units))
+    (each : (k : ℕ) → o ≤ k → k < far → (slice_index (take end units) k < 0x80) × (holds stops (slice_index (take end units) k) ≡ false)) where
+  pub among-ascii : (k : ℕ) → o ≤ k → k < far → IsAsciiAhead v k
+  among-ascii k from less =
+      let size = length-take end units in
+      let here : slice_index (take end units) k ≡ slice_index units k = get_or-take end units k 0 (omega (arith, size, room, less)) in
+      let inside : k < length units = omega (arith, size, room, less) in
+      ascii-ahead v k (subst (λ (us : List ℕ). k < length us) same inside) (subst (λ (us : List ℕ). slice_index us k < 0x80) same (subst (λ n. n < 0x80) here (each k from less).0))
+
+  pub among-each : (passes : ℕ → Bool) → ((c : ℕ) → passes c ≡ not (holds stops c)) → (k : ℕ) → o ≤ k → k < far → Some (suc k) ≡ passed passes ((input_of v).next Forward k)
+  among-each passes others k from less =
+      let size = length-take end units in
+      let here : slice_index (take end units) k ≡ slice_index units k = get_or-take end units k 0 (omega (arith, size, room, less)) in
+      let other : holds stops (slice_index units k) ≡ false = ap (holds stops) (sym here) ∙ (each k from less).1 in
+      other-passes v stops passes others k (among-ascii k from less) (subst (λ (us : List ℕ). holds stops (slice_index us k) ≡ false) same other)
 
 -- a byte that is no end of a line and not another is taken where any character of a line is
 module _ (b byte : ℕ) (low : b < 0x80) (other : holds (0x0A ∷ 0x0D ∷ byte ∷ []) b ≡ false) where

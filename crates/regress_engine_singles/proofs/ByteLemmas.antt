@@ -1,27 +1,20 @@
 -- When bytes don't stand where an instruction takes a character.
 use Rattle.std.specs.Prelude.{IfSome, slice_get, slice_index, slice_range, get_or, nat_lt, option_map, if◌then◌else◌}
-use Rattle.std.proofs.Common.{◌≡◌, ℕ, suc, ◌+◌, ◌<◌, ◌≤◌, Bool, true, false, not, ◌&&◌, ◌==◌, List, [], ◌∷◌, ◌++◌, length, drop, Option, Some, None, ◌⊎◌, inl, inr, refl, sym, ap, ◌∙◌, subst, arith}
+use Rattle.std.proofs.Common.{◌≡◌, ℕ, suc, ◌+◌, ◌<◌, Bool, true, false, not, ◌&&◌, ◌==◌, List, [], ◌∷◌, ◌++◌, length, drop, Option, Some, None, refl, sym, ap, ◌∙◌, subst, arith}
 use Rattle.std.specs.Option.{option_eq}
-use Rattle.std.proofs.lemmas.Bool.{eq-eqb, eqb-false, ltb-true}
+use Rattle.std.proofs.lemmas.Bool.{eq-eqb, eqb-false}
 use Rattle.std.proofs.lemmas.Bool.Decides.{nat_tests}
 use Rattle.std.proofs.lemmas.List.{get_or-drop, length-drop}
 use Rattle.std.proofs.lemmas.Option.{slice_get-get_or, get_or_from_slice_get}
-use Rattle.regress_meaning.specs.Text.{same_text, holds, between}
-use Rattle.regress_front_sets.proofs.IntervalLemmas.{between_cases}
-use Rattle.regress_front_bytes.specs.ByteSets.{members}
-use Rattle.regress_engine_insn.proofs.BitmapLemmas.{holds-members}
+use Rattle.regress_meaning.specs.Text.{same_text}
 use Rattle.regress_meaning.specs.Meaning.{Forward}
 use Rattle.regress_meaning.specs.Table.{Table}
 use Rattle.regress_meaning.specs.Tokens.{is_high, is_low, joined}
 use Rattle.regress_meaning.specs.Inputs.{Input, onto_right, bytes_right, byte_at, pair_right}
-use Rattle.regress_meaning.specs.Steps.{passed, literal}
+use Rattle.regress_meaning.specs.Steps.{literal}
 use Rattle.regress_engine_input.specs.Views.{View, Kind, utf8, ascii, utf16, ucs2, AreOfKind, are_bytes, input_of, input_of_kind, reading_of, in_bytes, unit_beside}
 use Rattle.regress_engine_input.proofs.Standing.{right-split}
 use Rattle.regress_engine_matchers.proofs.ByteLemmas.{in-bytes}
-use Rattle.regress_engine_insn.specs.Instructions.{Instruction, Program}
-use Rattle.regress_engine_insn.specs.Instructions as code
-use Rattle.regress_engine_runs.specs.States.{Marks}
-use Rattle.regress_engine_runs.specs.Runs.{advance}
 use Rattle.regress_engine_runs.specs.Meets.{IsAtPlace}
 use Rattle.regress_engine_search.proofs.PlaceLemmas.{next-place, units-are}
 

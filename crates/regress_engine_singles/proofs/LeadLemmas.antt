@@ -1,9 +1,9 @@
 -- The byte that stands where a character is read.
-use Rattle.std.specs.Prelude.{slice_get, get_or, is_some, nat_lt, nat_le, option_map, encode_utf8}
+use Rattle.std.specs.Prelude.{slice_get, get_or, is_some, option_map, encode_utf8}
 use Rattle.std.specs.Str.{IsUtf8, IsAscii, IsCharBoundary}
-use Rattle.std.proofs.Common.{◌≡◌, ◌⊎◌, inl, inr, ℕ, zero, suc, ◌+◌, ◌<◌, ◌≤◌, ◌||◌, ◌&&◌, ◌==◌, Bool, true, false, List, [], ◌∷◌, ◌++◌, length, drop, chars, Option, Some, None, if◌then◌else◌, refl, sym, ap, ◌∙◌, subst, arith}
+use Rattle.std.proofs.Common.{◌≡◌, ◌⊎◌, inl, inr, ℕ, zero, suc, ◌<◌, ◌≤◌, Bool, true, false, List, [], ◌∷◌, ◌++◌, length, drop, chars, Some, None, refl, sym, ap, ◌∙◌, arith}
 use Rattle.std.proofs.Math.Utf8.{encode, encodes}
-use Rattle.std.proofs.lemmas.Bool.{cases_lt, or_parts, eq-eqb, true≢false}
+use Rattle.std.proofs.lemmas.Bool.{cases_lt}
 use Rattle.std.proofs.lemmas.Bool.Decides.{nat_tests}
 use Rattle.std.proofs.lemmas.Option.{slice_get_within, slice_get-get_or, get_or_from_slice_get}
 use Rattle.std.proofs.lemmas.Str.{encode_ascii}
@@ -11,7 +11,7 @@ use Rattle.regress_meaning.specs.Meaning.{Forward}
 use Rattle.regress_meaning.specs.Offsets.{offset, of_utf8}
 use Rattle.regress_meaning.specs.Table.{Table}
 use Rattle.regress_meaning.specs.TableParts.{is_code_point}
-use Rattle.regress_meaning.specs.Inputs.{is_continuation, point_told, neighbour, utf8_next}
+use Rattle.regress_meaning.specs.Inputs.{is_continuation, point_told, utf8_next}
 use Rattle.regress_front_bytes.proofs.TextLemmas.{place_of_boundary, offset_of_end}
 use Rattle.regress_engine_input.specs.Views.{View, Kind, utf8, ascii, utf16, ucs2, AreOfKind, are_bytes, input_of, input_of_kind, IsReadable, CanRead}
 use Rattle.regress_engine_input.proofs.Utf8Parts.{bytes-here, scalar-here}

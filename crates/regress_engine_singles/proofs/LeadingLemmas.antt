@@ -1,6 +1,6 @@
 -- A program that begins with a class and a loop of another, from whose ends no match can be reached.
 use Rattle.std.specs.Prelude.{IfSome, slice_get, option_and_then, if◌then◌else◌}
-use Rattle.std.proofs.Common.{◌≡◌, ℕ, zero, suc, ◌+◌, ◌-◌, ◌≤◌, Bool, true, false, List, [], ◌∷◌, ◌++◌, Option, Some, None, refl, sym, ap, ◌∙◌, subst, arith}
+use Rattle.std.proofs.Common.{◌≡◌, ℕ, zero, suc, ◌+◌, ◌-◌, ◌≤◌, Bool, true, false, List, [], ◌∷◌, Option, Some, None, refl, sym, ap, ◌∙◌, subst, arith}
 use Rattle.std.proofs.lemmas.List.Elements.{All-cons, All-weaker}
 use Rattle.regress_meaning.specs.Meaning.{Forward}
 use Rattle.regress_meaning.specs.Inputs.{Input}
@@ -9,19 +9,18 @@ use Rattle.regress_front_nodes.specs.TreeMeaning.{bracket_has}
 use Rattle.regress_engine_input.specs.Views.{View, AreOfKind, input_of, reading_of}
 use Rattle.regress_engine_insn.specs.Instructions.{Instruction, Program, Stands}
 use Rattle.regress_engine_insn.specs.Instructions as code
-use Rattle.regress_engine_runs.specs.States.{Marks, Whole, first_state}
-use Rattle.regress_engine_runs.specs.Runs.{moved_to, advance, after_times, as_far, given_back}
+use Rattle.regress_engine_runs.specs.States.{Marks, first_state}
+use Rattle.regress_engine_runs.specs.Runs.{advance, after_times, as_far, given_back}
 use Rattle.regress_engine_runs.specs.Meets.{IsAtPlace}
-use Rattle.regress_engine_runs.specs.UndoStack.{whole, at_each}
+use Rattle.regress_engine_runs.specs.UndoStack.{at_each}
 use Rattle.regress_engine_runs.specs.Closed.{Fits, takes_character}
 use Rattle.regress_engine_search.specs.Ready.{is_simple}
 use Rattle.regress_engine_search.specs.Search.{Suits}
 use Rattle.regress_engine_search.proofs.GivenBack.{given-back}
-use Rattle.regress_engine_search.proofs.InsnLemmas.{simple-plain, simple-successors}
 use Rattle.regress_engine_search.proofs.PlaceLemmas.{moves, next-place}
 use Rattle.regress_engine_search.specs.Answering.{FindsOn}
 use Rattle.regress_engine_search.proofs.SearchLemmas.{search-on}
-use Rattle.regress_engine_singles.specs.Failing.{Fail, failed, steps, IsDead}
+use Rattle.regress_engine_singles.specs.Failing.{Fail, IsDead}
 use Rattle.regress_engine_analysis.specs.Planned.{is_class}
 use Rattle.regress_engine_singles.specs.Passed.{PassesOver}
 use Rattle.regress_engine_singles.specs.Sparing.{IsDeadBefore}

@@ -2,14 +2,13 @@
 use Rattle.std.specs.Prelude.{slice_get, option_and_then, is_some, nat_eq, encode_utf8}
 use Rattle.std.specs.Str.{encode_utf8_all}
 use Rattle.std.proofs.lemmas.Str.{encodes-chars, IsUtf8-nil}
-use Rattle.std.proofs.lemmas.Bool.{cases_lt, true≢false}
-use Rattle.std.proofs.lemmas.List.{length-map}
+use Rattle.std.proofs.lemmas.Bool.{true≢false}
 use Rattle.std.proofs.lemmas.Option.{slice_get_within}
-use Rattle.std.proofs.Common.{◌≡◌, ◌≢◌, ◌⊎◌, inl, inr, ℕ, ◌+◌, ◌<◌, ◌≤◌, Bool, true, false, not, List, [], ◌∷◌, ◌++◌, length, Option, Some, None, refl, sym, ap, ◌∙◌, subst, arith}
+use Rattle.std.proofs.Common.{◌≡◌, ℕ, ◌+◌, ◌<◌, Bool, true, false, not, List, [], ◌∷◌, ◌++◌, length, Option, Some, None, refl, sym, ap, ◌∙◌, arith}
 use Rattle.regress_meaning.specs.Text.{holds}
 use Rattle.regress_meaning.specs.Meaning.{Forward, is_line_end}
-use Rattle.regress_meaning.specs.Steps.{passed, literal}
-use Rattle.regress_meaning.specs.Inputs.{Input, is_continuation}
+use Rattle.regress_meaning.specs.Steps.{passed}
+use Rattle.regress_meaning.specs.Inputs.{Input}
 use Rattle.regress_front_bytes.specs.Bitmaps.{byte_bitmap_contains}
 use Rattle.regress_front_bytes.specs.declared.bitmaps.ByteBitmap.{ByteBitmap}
 use Rattle.regress_front_nodes.specs.Singles.{is_one_character}
@@ -18,19 +17,16 @@ use Rattle.regress_engine_input.specs.Views.{View, AreOfKind, input_of}
 use Rattle.regress_engine_insn.specs.Instructions.{Instruction, LoopFields, Program, Stands}
 use Rattle.regress_engine_insn.specs.Instructions as code
 use Rattle.regress_engine_analysis.specs.declared.facts.Facts.{Facts}
-use Rattle.regress_engine_analysis.specs.declared.facts.Known.{Known}
 use Rattle.regress_engine_analysis.specs.declared.facts.Known.TheVariants as fact
 use Rattle.regress_engine_analysis.specs.declared.facts.Turn.{Turn}
 use Rattle.regress_engine_analysis.specs.MayBegin.{begins, may_begin_with}
 use Rattle.regress_engine_analysis.specs.Planned.{AreApart, ArePlanned, firsts, is_class, known_of}
 use Rattle.regress_engine_analysis.proofs.PlanLemmas.{end-stands, jump-stands, loop-stands, stands-of}
 use Rattle.regress_engine_runs.specs.Closed.{takes_character}
-use Rattle.regress_engine_runs.specs.Meets.{IsAtPlace}
 use Rattle.regress_engine_runs.specs.Runs.{advance}
 use Rattle.regress_engine_runs.specs.States.{Marks}
 use Rattle.regress_engine_search.specs.Search.{Suits}
 use Rattle.regress_engine_search.proofs.PlaceLemmas.{can-read, units-are}
-use Rattle.regress_engine_singles.specs.Failing.{IsDead}
 use Rattle.regress_engine_singles.specs.Sparing.{IsDeadBefore, IsTurn}
 use Rattle.regress_engine_singles.proofs.ByteLemmas.{other-first}
 use Rattle.regress_engine_singles.proofs.FirstByteLemmas.{first_byte-dead, first_byte-may}

@@ -1,6 +1,6 @@
 -- How far a class of all characters but a few of ASCII matches over units: up to the next of these.
-use Rattle.std.specs.Prelude.{slice_get, slice_index, get_or, option_map, if◌then◌else◌}
-use Rattle.std.proofs.Common.{◌≡◌, ◌⊎◌, inl, inr, ℕ, zero, suc, ◌-◌, ◌<◌, ◌≤◌, ◌&&◌, Bool, true, false, not, List, length, Option, Some, None, refl, sym, ap, ◌∙◌, subst, arith}
+use Rattle.std.specs.Prelude.{nat_le, ◌||◌, slice_get, slice_index, get_or, option_map, if◌then◌else◌}
+use Rattle.std.proofs.Common.{◌≡◌, ◌⊎◌, inl, inr, ℕ, zero, suc, ◌-◌, ◌<◌, ◌≤◌, ◌&&◌, Bool, true, false, not, List, length, Option, Some, None, refl, sym, ap, ◌∙◌, arith, leb-false}
 use Rattle.std.proofs.lemmas.Bool.{cases_lt}
 use Rattle.std.proofs.lemmas.Bool.Decides.{nat_tests}
 use Rattle.std.proofs.lemmas.Option.{slice_get_past, slice_get_within, slice_get-get_or, get_or_from_slice_get}
@@ -120,18 +120,30 @@ module _ (v : View) (are : are_bytes v.kind ≡ false) (stops : List ℕ) (low :
 
 -- ---- the next stop
 
-other-held : (stops units : List ℕ) (k : ℕ) → k < length units → ¬ (is_some_and (slice_get units k) (holds stops) ≡ true) → holds stops (slice_index units k) ≡ false
-other-held stops units k inside other = by_test (holds stops (slice_index units k)) refl
+unpassed : (test : ℕ → Bool) (units : List ℕ) (k : ℕ) → k < length units → ¬ (is_some_and (slice_get units k) test ≡ true) → test (slice_index units k) ≡ false
+unpassed test units k inside other = by_test (test (slice_index units k)) refl
   where
-    by_test : (t : Bool) → holds stops (slice_index units k) ≡ t → t ≡ false
+    by_test : (t : Bool) → test (slice_index units k) ≡ t → t ≡ false
     by_test false e = refl
-    by_test true e = absurd (other (ap (λ o. is_some_and o (holds stops)) (slice_get-get_or units k 0 inside) ∙ e))
+    by_test true e = absurd (other (ap (λ o. is_some_and o test) (slice_get-get_or units k 0 inside) ∙ e))
+
+neither : (a b : Bool) → (a || b) ≡ false → (a ≡ false) × (b ≡ false)
+neither false b e = (refl, e)
+neither true b e = absurd (cc)
+
+-- what is none of three bytes, nor beyond ASCII
+pub ascii-others : (stops units : List ℕ) (o to : ℕ) → to ≤ length units → ((k : ℕ) → o ≤ k → k < to → ¬ (is_some_and (slice_get units k) (λ u. holds stops u || nat_le 0x80 u) ≡ true))
+    → (k : ℕ) → o ≤ k → k < to → (slice_index units k < 0x80) × (holds stops (slice_index units k) ≡ false)
+ascii-others stops units o to room none k from less =
+    let (other, low) = neither (holds stops (slice_index units k)) (nat_le 0x80 (slice_index units k))
+    (unpassed (λ u. holds stops u || nat_le 0x80 u) units k (omega (arith, less, room)) (none k from less)) in
+    (leb-false 0x80 (slice_index units k) low, other)
 
 pub stop-found : (stops units : List ℕ) (o k : ℕ) → k < length units → IsNextUnit (holds stops) units o (Some k) → StopsAt stops units o k
 stop-found stops units o k inside found = record {
   low = found.0;
   room = omega (arith, inside);
-  none = λ j from less. other-held stops units j (omega (arith, less, inside)) (found.2 j from less);
+  none = λ j from less. unpassed (holds stops) units j (omega (arith, less, inside)) (found.2 j from less);
   stop = λ within. ap (λ x. is_some_and x (holds stops)) (sym (slice_get-get_or units k 0 inside)) ∙ found.1;
 }
 
@@ -139,6 +151,6 @@ pub stop-none : (stops units : List ℕ) (o : ℕ) → o ≤ length units → Is
 stop-none stops units o room none = record {
   low = room;
   room = omega arith;
-  none = λ j from less. other-held stops units j less (none j from);
+  none = λ j from less. unpassed (holds stops) units j less (none j from);
   stop = λ within. absurd (omega (arith, within));
 }

@@ -1,13 +1,14 @@
 //! Tests on the character ahead of an offset, told by its byte where it is one of ASCII.
-ghost use Rattle.std.specs.Prelude.{◌≡◌, ℕ, suc, ◌-◌, ◌<◌, ◌≤◌, not, IfSome, Some};
+ghost use Rattle.std.specs.Prelude.{◌≡◌, ℕ, suc, ◌-◌, ◌<◌, ◌≤◌, not, length, IfSome, Some};
 ghost use Rattle.regress_meaning.specs.Meaning.{Forward as ahead};
 ghost use Rattle.regress_meaning.specs.Steps.{passed};
 ghost use Rattle.regress_meaning.specs.Text.{holds};
-ghost use Rattle.regress_engine_input.specs.Views.{input_of, CanRead};
+ghost use Rattle.regress_engine_input.specs.Views.{in_units, input_of, CanRead};
 ghost use Rattle.regress_engine_singles.specs.Passing.{IsAsciiAhead};
 
 use crate::class::ScannedBracket;
 use crate::stops::next_stop;
+use crate::unit_stops::next_other;
 use regress_engine_input::cursor::next;
 use regress_engine_input::{Direction, ElementType, Forward, InputIndexer, PositionType};
 use regress_engine_matchers::{MatchByteSet, SingleCharMatcher};
@@ -87,8 +88,38 @@ impl<Input: InputIndexer> ByteMatcher<Input> for AllBut {
     }
 }
 
-/// The offset behind as many characters of ASCII ahead of one as pass one after another, at most so many, where they stand in
-/// bytes; over units the offset itself.
+/// The same as `ascii_end` over units.
+#[inline(always)]
+fn ascii_end_among<Input: InputIndexer, Matcher: ByteMatcher<Input>>(
+    input: &Input,
+    matcher: &Matcher,
+    units: &[u16],
+    most: usize,
+    offset: usize,
+) -> usize
+    requires shown { in_units (Input.view input.now).kind (Some (Input.view input.now).units) ≡ Some units.now }
+    requires inside { offset ≤ length units.now }
+    ensures low { offset ≤ result }
+    ensures high { result - offset ≤ most }
+    ensures each { (k : ℕ) → offset ≤ k → k < result → Some (suc k) ≡ passed (Matcher.passes matcher.now) ((input_of (Input.view input.now)).next ahead k) }
+    ensures ascii { (k : ℕ) → offset ≤ k → k < result → IsAsciiAhead (Input.view input.now) k }
+{
+    let end = offset + most.min(units.len() - offset);
+    if let Some(stops) = matcher.stopped_by() {
+        return next_other(stops, &units[..end], offset);
+    }
+    let mut at = offset;
+    while at < end {
+        let unit = units[at];
+        if unit >= 0x80 || !matcher.has_byte(unit as u8) {
+            break;
+        }
+        at += 1;
+    }
+    at
+}
+
+/// The offset behind as many characters of ASCII ahead of one as pass one after another, at most so many.
 #[inline(always)]
 pub(crate) fn ascii_end<Input: InputIndexer, Matcher: ByteMatcher<Input>>(
     input: &Input,
@@ -103,7 +134,12 @@ pub(crate) fn ascii_end<Input: InputIndexer, Matcher: ByteMatcher<Input>>(
     ensures ascii { (k : ℕ) → offset ≤ k → k < result → IsAsciiAhead (Input.view input.now) k }
 {
     let Some(text) = input.bytes() else {
-        return offset;
+        return match input.units() {
+            Some(units) if offset <= units.len() => {
+                ascii_end_among(input, matcher, units, most, offset)
+            }
+            _ => offset,
+        };
     };
     let end = offset + most.min(text.len() - offset);
     if let Some(stops) = matcher.stopped_by() {

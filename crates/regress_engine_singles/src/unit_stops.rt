@@ -1,6 +1,7 @@
 //! Classes of all characters but a few of ASCII, over 16-bit units.
-ghost use Rattle.std.specs.Prelude.{◌≡◌, ◌≤◌, length, IfSome};
+ghost use Rattle.std.specs.Prelude.{◌≡◌, ◌<◌, ◌≤◌, ℕ, false, length, slice_index, IfSome};
 ghost use Rattle.regress_meaning.specs.Meaning.{Forward as ahead};
+ghost use Rattle.regress_meaning.specs.Text.{holds};
 ghost use Rattle.regress_front_sets.specs.Intervals.{ends_of};
 ghost use Rattle.regress_front_nodes.specs.TreeMeaning.{bracket_has};
 ghost use Rattle.regress_engine_input.specs.Views.{input_of, CanRead};
@@ -8,7 +9,7 @@ ghost use Rattle.regress_engine_singles.specs.Passing.{scan_while, StopsAt};
 
 use crate::stops::all_but;
 use regress_engine_input::InputIndexer;
-use regress_engine_scanning::find_member;
+use regress_engine_scanning::{OrBeyondAscii, find_member};
 use regress_front_nodes::BracketContents;
 
 /// The least offset from one on at which the unit of one of three bytes stands, or that of the end.
@@ -17,6 +18,19 @@ fn next_unit_stop(stops: [u8; 3], units: &[u16], offset: usize) -> usize
     ensures { StopsAt stops units.now offset result }
 {
     match find_member(&stops, units, offset) {
+        Some(index) => index,
+        None => units.len(),
+    }
+}
+
+/// The least offset from one on at which the unit of one of three bytes stands or one beyond ASCII, or that of the end.
+#[inline(always)]
+pub(crate) fn next_other(stops: [u8; 3], units: &[u16], offset: usize) -> usize
+    requires { offset ≤ length units.now }
+    ensures inside { (offset ≤ result) × (result ≤ length units.now) }
+    ensures each { (k : ℕ) → offset ≤ k → k < result → (slice_index units.now k < 0x80) × (holds stops (slice_index units.now k) ≡ false) }
+{
+    match find_member(&OrBeyondAscii(stops), units, offset) {
         Some(index) => index,
         None => units.len(),
     }

@@ -3,14 +3,15 @@ use Rattle.std.proofs.lemmas.Bool.{eq-eqb}
 use Rattle.regress_engine_insn.specs.Instructions.{begins_loop}
 use Rattle.regress_engine_insn.specs.InsnViews.{instruction, fields}
 use Rattle.regress_engine_insn.specs.declared.insn.Insn.TheVariants.{Goal}
-use Rattle.regress_engine_analysis.specs.Planned.{ends_iteration, is_class, jumps_to}
+use Rattle.regress_engine_analysis.specs.Planned.{ends_iteration, firsts, is_class, jumps_to}
+use Rattle.regress_engine_analysis.specs.Shared.{shared}
 use Rattle.regress_engine_analysis.proofs.PlanLemmas.{one-loop, one-second, read-passes, read-stands}
 use Rattle.regress_engine_analysis.proofs.shortcuts.turn_at.Goals as goal
 
 pub returns : goal.returns
 returns c = λ program same ways.
     let insns = c.args.insns.now in
-    let sets = c.args.sets.now in
+    let sets = firsts (shared c.args.facts.now) in
     let target = c.in-Jump.target in
     let begin = c.in-LoopAgain.begin in
     let within = c.if-at-insns.false in

@@ -1,6 +1,6 @@
 use Rattle.std.proofs.Common.{ap}
 use Rattle.regress_engine_insn.specs.InsnViews.{instruction}
-use Rattle.regress_engine_answers.specs.Walked.{written_by}
+use Rattle.regress_engine_ways.specs.Ways.{written_by}
 use Rattle.regress_engine_answers.proofs.walking.mark.Goals as goal
 
 pub begin-requires : goal.begin-requires

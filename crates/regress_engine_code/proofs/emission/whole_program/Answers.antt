@@ -1,4 +1,4 @@
-use Rattle.std.proofs.Common.{◌≡◌, ℕ, Bool, false, List, length, map, chars, String, Vec, Global, refl, sym, ap, ◌∙◌, subst, arith}
+use Rattle.std.proofs.Common.{◌≡◌, ℕ, Bool, false, length, map, chars, String, Vec, Global, refl, sym, ap, ◌∙◌, subst, arith}
 use Rattle.std.specs.String.{string_bytes}
 use Rattle.std.specs.Arc.{arc_slice_items}
 use Rattle.std.proofs.lemmas.List.{length-map}
@@ -13,6 +13,7 @@ use Rattle.regress_front_nodes.specs.WellFormed.{IsWellFormed}
 use Rattle.regress_front_nodes.proofs.NameLemmas.{names-counted}
 use Rattle.regress_engine_insn.specs.InsnViews.{instruction}
 use Rattle.regress_engine_analysis.specs.Planned.{ArePlanned}
+use Rattle.regress_engine_analysis.specs.Shared.{facts_of}
 use Rattle.regress_engine_analysis.specs.Submatches.{has_submatches}
 use Rattle.regress_engine_insn.specs.ProgramViews.{program_from}
 use Rattle.regress_engine_insn.specs.Layout.{Target, IsLayout}
@@ -33,10 +34,10 @@ returns-clause-emitted c =
     let (n, formed) = c.requires in
     let t = tree regex.node in
     let unicode = is_unicode (options regex.flags) in
-    let start = written c.new-code.result in
+    let start = written c.in_ok-code.code in
     let w = written c.node.new.code in
     let adds = subst (λ (u : Bool). AddsTree c.args.units (table regex.tables.now) u false t start w) c.is_unicode.ensures c.in_ok-node.ensures.added in
-    let counted = whole-counted c.args.units (table regex.tables.now) unicode n t start w c.new-code.ensures formed.lawful adds in
+    let counted = whole-counted c.args.units (table regex.tables.now) unicode n t start w c.in_ok-code.ensures formed.lawful adds in
     let target : Target = record {
       program = record { instructions = w.instructions; brackets = w.brackets; loops = c.from.result; groups = c.in_ok-groups.groups; units = c.args.units };
       table = table regex.tables.now;
@@ -45,7 +46,7 @@ returns-clause-emitted c =
     let shared : table c.in_ok-tables.tables ≡ table regex.tables.now = ap table_known c.in_ok-tables.ensures in
     let grouped = c.in_ok-groups.ensures.ok ∙ ap length c.deref.ensures.value ∙ group-for-name n t c.in_ok-names.names formed c.in_ok-names.ensures in
     let layout = told-layout c.args.units (table regex.tables.now) unicode _ n t start w c.from.result c.in_ok-groups.groups
-    c.new-code.ensures c.is_unicode.ensures c.in_ok-node.ensures.added c.from.ensures grouped in
+    c.in_ok-code.ensures c.is_unicode.ensures c.in_ok-node.ensures.added c.from.ensures grouped in
     record {
       flags = refl;
       table = shared;
@@ -78,13 +79,13 @@ invariant_of-result c =
         t,
         formed,
         subst (λ (x : Table). IsLayout (target x) n t) (sym shared)
-            (told-layout c.args.units (table regex.tables.now) (is_unicode (options regex.flags)) _ n t (written c.new-code.result) w
-            c.from.result c.in_ok-groups.groups c.new-code.ensures c.is_unicode.ensures c.in_ok-node.ensures.added c.from.ensures
+            (told-layout c.args.units (table regex.tables.now) (is_unicode (options regex.flags)) _ n t (written c.in_ok-code.code) w
+            c.from.result c.in_ok-groups.groups c.in_ok-code.ensures c.is_unicode.ensures c.in_ok-node.ensures.added c.from.ensures
             grouped),
         c.in_ok-start_pred.ensures.serves,
       ) ∣₁;
-      planned = subst (λ brackets. ArePlanned (program_from c.node.new.code.insns.items brackets c.from.result c.in_ok-groups.groups c.args.units) c.in_ok-plan.plan.facts.items) c.deref-3.ensures.value
-          (subst (λ insns. ArePlanned (program_from insns c.deref-3.result.now c.from.result c.in_ok-groups.groups c.args.units) c.in_ok-plan.plan.facts.items) c.deref-2.ensures.value
+      planned = subst (λ brackets. ArePlanned (program_from c.node.new.code.insns.items brackets c.from.result c.in_ok-groups.groups c.args.units) (facts_of c.in_ok-plan.plan)) c.deref-3.ensures.value
+          (subst (λ insns. ArePlanned (program_from insns c.deref-3.result.now c.from.result c.in_ok-groups.groups c.args.units) (facts_of c.in_ok-plan.plan)) c.deref-2.ensures.value
           (c.in_ok-plan.ensures.planned c.from.result c.in_ok-groups.groups));
       submatches = c.in_ok-plan.ensures.submatches ∙ ap has_submatches c.deref-2.ensures.value;
     }

@@ -12,9 +12,9 @@ returns-then-marks-ne0-clause-least g c =
     let units = c.args.units.now in
     let m = c.marks-marks.result in
     let room = c.loop-at-test.true in
-    let tells = unit-marks test units c.loop-at.at m (omega (arith, room)) c.marks-marks.ensures in
+    let tells = unit-marks test units c.loop-at.at 32 m (omega (arith, room)) (omega arith) c.marks-marks.ensures in
     marked-least (λ k. is_some_and (slice_get units k) test ≡ true) 32 c.args.from c.loop-at.at m c.loop-at.invariant.low c.loop-at.invariant.none tells
-    (omega (arith, c.if-marks-ne0.true)) (mask-small test units c.loop-at.at m (omega (arith, room)) c.marks-marks.ensures)
+    (omega (arith, c.if-marks-ne0.true)) (mask-small test units c.loop-at.at 32 m (omega (arith, room)) (omega arith) c.marks-marks.ensures)
 
 pub returns-then-marks-ne0-clause-inside : goal.returns-then-marks-ne0-clause-inside
 returns-then-marks-ne0-clause-inside g c =
@@ -22,9 +22,9 @@ returns-then-marks-ne0-clause-inside g c =
     let units = c.args.units.now in
     let m = c.marks-marks.result in
     let room = c.loop-at-test.true in
-    let tells = unit-marks test units c.loop-at.at m (omega (arith, room)) c.marks-marks.ensures in
+    let tells = unit-marks test units c.loop-at.at 32 m (omega (arith, room)) (omega arith) c.marks-marks.ensures in
     let found = marked-least (λ k. is_some_and (slice_get units k) test ≡ true) 32 c.args.from c.loop-at.at m c.loop-at.invariant.low c.loop-at.invariant.none tells
-    (omega (arith, c.if-marks-ne0.true)) (mask-small test units c.loop-at.at m (omega (arith, room)) c.marks-marks.ensures) in
+    (omega (arith, c.if-marks-ne0.true)) (mask-small test units c.loop-at.at 32 m (omega (arith, room)) (omega arith) c.marks-marks.ensures) in
     is-there test units _ found.1
 
 pub loop-at-preserved : goal.loop-at-preserved
@@ -33,7 +33,7 @@ loop-at-preserved g c =
     let units = c.args.units.now in
     let m = c.marks-marks.result in
     let room = c.loop-at-test.true in
-    let tells = unit-marks test units c.loop-at.at m (omega (arith, room)) c.marks-marks.ensures in
+    let tells = unit-marks test units c.loop-at.at 32 m (omega (arith, room)) (omega arith) c.marks-marks.ensures in
     record {
       low = omega (arith, c.loop-at.invariant.low);
       high = omega (arith, room);

@@ -1,6 +1,6 @@
 use Rattle.std.specs.Prelude.{slice_index}
-use Rattle.std.proofs.Common.{◌≡◌, ◌==◌, ℕ, [], ◌∷◌, false, not, refl}
-use Rattle.regress_meaning.specs.Meaning.{Forward as ahead, is_line_end}
+use Rattle.std.proofs.Common.{◌≡◌, [], ◌∷◌, false, not, refl}
+use Rattle.regress_meaning.specs.Meaning.{is_line_end}
 use Rattle.regress_meaning.specs.Text.{holds}
 use Rattle.regress_engine_singles.proofs.AsciiLemmas.{ascii-passes, other-passed, in-line, not-byte}
 use Rattle.regress_engine_singles.proofs.before.taken_before.Goals as goal

@@ -1,6 +1,5 @@
-use Rattle.regress_engine_linear.specs.Linear.{IsDue}
-use Rattle.std.proofs.Common.{◌≡◌, ℕ, Bool, true, false, Some, length, refl, sym, ap, ◌∙◌, subst}
-use Rattle.std.specs.Prelude.{map, slice_get}
+use Rattle.std.proofs.Common.{◌≡◌, ◌<◌, ◌==◌, ◌&&◌, ◌||◌, ℕ, true, false, length, sym, ap, ◌∙◌, subst, arith}
+use Rattle.std.specs.Prelude.{map}
 use Rattle.regress_engine_code.specs.Standing.{program_of}
 use Rattle.regress_engine_input.specs.Views.{direction_of, input_of, reading_of}
 use Rattle.regress_engine_insn.specs.Instructions.{Instruction, Stands}
@@ -9,23 +8,17 @@ use Rattle.regress_engine_runs.specs.Meets.{IsAtPlace, reads_character}
 use Rattle.regress_engine_runs.proofs.RunViews.{one_stands}
 use Rattle.regress_engine_search.specs.StateViews.{marks_of}
 use Rattle.regress_engine_linear.specs.LinearViews.{flow_in, heights_in}
-use Rattle.regress_engine_answers.proofs.FillLemmas.{exits-known, never-come, one-due, skipped, unreferring-there, worked}
-use Rattle.regress_engine_answers.proofs.FillingWays.{due-stands, ok-two}
+use Rattle.regress_engine_linear.specs.RankTables.{address_at}
+use Rattle.regress_engine_linear.specs.Answered.{AreExitsRight, exits_value_at}
+use Rattle.regress_engine_answers.specs.AnswerTables.{exits_by, told_by}
+use Rattle.regress_engine_ways.specs.Ways.{value_at}
+use Rattle.regress_engine_answers.proofs.FillLemmas.{exits-known, never-come, one-at, skipped, unreferring-there, worked}
+use Rattle.regress_engine_answers.proofs.FillingWays.{ok-two, order-stands}
 use Rattle.regress_engine_answers.proofs.answers.Answering.fill_at.Goals as goal
 use Rattle.regress_engine_answers.proofs.answers.Answering.fill_at.Goals.{else-not-is_place-via-then-not-is_place+else-reads_character, else-not-is_place-via-else-not-is_place}
 
-pub returns-then-not-is_due-clause-filled : goal.returns-then-not-is_due-clause-filled
-returns-then-not-is_due-clause-filled g c =
-    let v = g.Input.InputIndexer.view c.args.self.now.input in
-    let all = g.met.Input.InputIndexer.are_of_kind c.args.self.now.input in
-    let program = program_of c.args.self.now.program.now in
-    let flow = flow_in c.args.table.now in
-    let h = heights_in c.args.table.now in
-    let at = c.address-at.result in
-    let here : slice_get h.order c.args.rank ≡ Some at = c.address-at.ensures in
-    skipped flow h v all program c.requires.suits c.requires.linear c.requires.short c.args.answers.now c.args.forward c.args.rank c.args.offset c.requires.filled
-    (λ b due. absurd (c.is_due.ensures.other c.if-not-is_due.true
-    (subst (IsDue h c.args.forward c.args.rank) (one-due flow h v all program c.requires.suits c.requires.linear c.requires.short c.args.rank at b here due.0 due.2) due)))
+pub address-at-requires : goal.address-at-requires
+address-at-requires g c = let low = c.requires.level.within in let less = c.requires.within in omega (arith, low, less)
 
 pub instruction-requires : goal.instruction-requires
 instruction-requires g c =
@@ -34,7 +27,10 @@ instruction-requires g c =
     let program = program_of c.args.self.now.program.now in
     let flow = flow_in c.args.table.now in
     let h = heights_in c.args.table.now in
-    due-stands flow h v all program c.requires.suits c.requires.linear c.requires.short c.args.forward c.args.rank c.address-at.result (c.is_due.ensures.due c.if-not-is_due.false)
+    let low = c.requires.level.within in
+    let less = c.requires.within in
+    subst (λ x. (i : Instruction) × Stands program x i) (sym c.address-at.ensures)
+    (order-stands flow h v all program c.requires.suits c.requires.linear c.requires.short c.args.index (omega (arith, low, less)))
 
 pub returns-then-reads_character-clause-filled : goal.returns-then-reads_character-clause-filled
 returns-then-reads_character-clause-filled g c =
@@ -44,10 +40,9 @@ returns-then-reads_character-clause-filled g c =
     let flow = flow_in c.args.table.now in
     let h = heights_in c.args.table.now in
     let at = c.address-at.result in
-    let here : slice_get h.order c.args.rank ≡ Some at = c.address-at.ensures in
-    skipped flow h v all program c.requires.suits c.requires.linear c.requires.short c.args.answers.now c.args.forward c.args.rank c.args.offset c.requires.filled
-    (λ b due.
-    let same = one-due flow h v all program c.requires.suits c.requires.linear c.requires.short c.args.rank at b here due.0 due.2 in
+    skipped flow h v all program c.requires.suits c.requires.linear c.requires.short c.args.answers.now c.args.level c.args.index c.args.offset c.requires.filled
+    (λ b within index.
+    let same : b ≡ at = one-at flow h v all program c.requires.suits c.requires.linear c.requires.short c.args.index b within index ∙ sym c.address-at.ensures in
     never-come flow h v all program c.requires.suits c.requires.linear c.requires.short c.args.answers.now b c.args.offset (instruction c.instruction.result.now)
     (subst (λ x. Stands program x (instruction c.instruction.result.now)) (sym same) c.instruction.ensures.stands) (sym c.reads_character.ensures ∙ c.if-reads_character.true)
     (c.requires.apart c.if-not-is_place.true))
@@ -59,7 +54,21 @@ work_at-requires-clause-stands g c =
     let program = program_of c.args.self.now.program.now in
     let flow = flow_in c.args.table.now in
     let h = heights_in c.args.table.now in
-    due-stands flow h v all program c.requires.suits c.requires.linear c.requires.short c.args.forward c.args.rank c.address-at.result (c.is_due.ensures.due c.if-not-is_due.false)
+    let low = c.requires.level.within in
+    let less = c.requires.within in
+    subst (λ x. (i : Instruction) × Stands program x i) (sym c.address-at.ensures)
+    (order-stands flow h v all program c.requires.suits c.requires.linear c.requires.short c.args.index (omega (arith, low, less)))
+
+pub work_at-requires-clause-within : goal.work_at-requires-clause-within
+work_at-requires-clause-within g c =
+    let v = g.Input.InputIndexer.view c.args.self.now.input in
+    let all = g.met.Input.InputIndexer.are_of_kind c.args.self.now.input in
+    let program = program_of c.args.self.now.program.now in
+    let flow = flow_in c.args.table.now in
+    let h = heights_in c.args.table.now in
+    let low = c.requires.level.within in
+    let less = c.requires.within in
+    subst (λ x. x < length program.instructions) (sym c.address-at.ensures) (c.requires.linear.placed.there c.args.index (omega (arith, low, less)))
 
 pub work_at-requires-clause-calm : goal.work_at-requires-clause-calm
 work_at-requires-clause-calm g c b i here =
@@ -70,6 +79,9 @@ work_at-requires-clause-calm g c b i here =
     let h = heights_in c.args.table.now in
     unreferring-there flow h v all program c.requires.suits c.requires.linear c.requires.short b i here
 
+pub work_at-requires-clause-placed : goal.work_at-requires-clause-placed
+work_at-requires-clause-placed g c = c.requires.filled.spots
+
 pub work_at-requires-clause-exits : goal.work_at-requires-clause-exits
 work_at-requires-clause-exits g c =
     let v = g.Input.InputIndexer.view c.args.self.now.input in
@@ -77,9 +89,9 @@ work_at-requires-clause-exits g c =
     let program = program_of c.args.self.now.program.now in
     let flow = flow_in c.args.table.now in
     let h = heights_in c.args.table.now in
-    let due = c.is_due.ensures.due c.if-not-is_due.false in
-    exits-known flow h v all program c.requires.suits c.requires.linear c.requires.short c.args.answers.now c.args.forward c.args.rank c.args.offset c.requires.filled c.address-at.result
-    due.2 due.1 c.requires.lies due.0
+    subst (λ x. AreExitsRight (told_by c.args.answers.now) (exits_by c.args.answers.now) program v (direction_of c.args.level.forward) x c.args.offset) (sym c.address-at.ensures)
+    (exits-known flow h v all program c.requires.suits c.requires.linear c.requires.short c.args.answers.now c.args.level c.requires.level c.args.index c.args.offset c.requires.filled
+    c.requires.from c.requires.within c.requires.lies)
 
 pub returns-clause-filled : goal.returns-clause-filled
 returns-clause-filled g c =
@@ -88,22 +100,27 @@ returns-clause-filled g c =
     let program = program_of c.args.self.now.program.now in
     let flow = flow_in c.args.table.now in
     let h = heights_in c.args.table.now in
-    let at = c.address-at.result in
-    let due = c.is_due.ensures.due c.if-not-is_due.false in
-    let (i, stands) = due-stands flow h v all program c.requires.suits c.requires.linear c.requires.short c.args.forward c.args.rank at due in
-    let here : slice_get h.order c.args.rank ≡ Some at = c.address-at.ensures in
-    let reads : reads_character i ≡ true → IsAtPlace (reading_of v) c.args.offset = λ is. elim c.else-not-is_place.branch [
+    let at = address_at h c.args.index in
+    let is : c.address-at.result ≡ at = c.address-at.ensures in
+    let low = c.requires.level.within in
+    let less = c.requires.within in
+    let (i, stands) = order-stands flow h v all program c.requires.suits c.requires.linear c.requires.short c.args.index (omega (arith, low, less)) in
+    let here : Stands program c.address-at.result i = subst (λ x. Stands program x i) (sym is) stands in
+    let reads : reads_character i ≡ true → IsAtPlace (reading_of v) c.args.offset = λ reads'. elim c.else-not-is_place.branch [
       | else-not-is_place-via-then-not-is_place+else-reads_character w ↦
-          let same = one_stands program (input_of v) at i (instruction w.instruction.result.now) stands w.instruction.ensures.stands in
-          let never : true ≡ false = sym is ∙ ap reads_character same ∙ sym w.reads_character.ensures ∙ w.if-reads_character.false in
+          let same = one_stands program (input_of v) c.address-at.result i (instruction w.instruction.result.now) here w.instruction.ensures.stands in
+          let never : true ≡ false = sym reads' ∙ ap reads_character same ∙ sym w.reads_character.ensures ∙ w.if-reads_character.false in
           absurd (cc never)
       | else-not-is_place-via-else-not-is_place w ↦ c.requires.place w.if-not-is_place.false
     ] in
+    let old = c.args.answers.now in
+    let new = c.work_at.new.answers in
+    let dir = direction_of c.args.level.forward in
+    let gs = map marks_of c.args.self.now.groups.now in
     ok-two c.work_at.result
-    (λ told exits. worked flow h v all program c.requires.suits c.requires.linear c.requires.short c.args.answers.now c.args.forward c.args.rank c.args.offset c.requires.filled at
-    due.2 due.1 c.requires.lies (map marks_of c.args.self.now.groups.now) due.0
-    (λ b within rank. one-due flow h v all program c.requires.suits c.requires.linear c.requires.short c.args.rank at b here within rank)
-    i stands reads c.work_at.new.answers (told i stands) (exits i stands)) c.work_at.ensures.told c.work_at.ensures.exits
-
-pub work_at-requires-clause-placed : goal.work_at-requires-clause-placed
-work_at-requires-clause-placed g c = c.requires.filled.spots
+    (λ told exits. worked flow h v all program c.requires.suits c.requires.linear c.requires.short old c.args.level c.requires.level c.args.index c.args.offset c.requires.filled
+    c.requires.from c.requires.within c.requires.lies gs i stands reads new
+    (subst (λ x. (b q : ℕ) → told_by new b q ≡ (told_by old b q || (((b == x) && (c.args.offset == q)) && value_at h (told_by old) program (input_of v) dir gs i x c.args.offset))) is (told i here))
+    (subst (λ x. (b q : ℕ) → exits_by new b q ≡ (exits_by old b q || (((b == x) && (c.args.offset == q)) && exits_value_at (told_by old) (exits_by old) program (input_of v) dir i x c.args.offset))) is
+    (exits i here)))
+    c.work_at.ensures.told c.work_at.ensures.exits

@@ -9,7 +9,8 @@ use Rattle.regress_engine_search.specs.Answering.{IsAnswer}
 use Rattle.regress_engine_search.specs.StateViews.{marks_of}
 use Rattle.regress_engine_linear.specs.LinearViews.{flow_in, heights_in}
 use Rattle.regress_engine_answers.specs.Walked.{Walk, Walks, far, goes, walk_of}
-use Rattle.regress_engine_answers.proofs.WalkLemmas.{may-walk, written-fits}
+use Rattle.regress_engine_ways.proofs.OnWay.{written-fits}
+use Rattle.regress_engine_answers.proofs.MayWalk.{may-walk}
 use Rattle.regress_engine_linear.proofs.ExitWays.{runs-stand}
 use Rattle.regress_engine_linear.proofs.WorkLemmas.{rank-low}
 use Rattle.regress_engine_answers.proofs.Walks.{end-left, walk-begins, walk-ends, walk-exits, walk-goes, walk-ready, walk-way}

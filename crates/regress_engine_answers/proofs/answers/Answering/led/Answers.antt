@@ -7,8 +7,8 @@ use Rattle.regress_engine_runs.specs.Meets.{reads_character}
 use Rattle.regress_engine_search.specs.StateViews.{marks_of}
 use Rattle.regress_engine_linear.specs.Answered.{is_single}
 use Rattle.regress_engine_answers.specs.AnswerTables.{told_by}
-use Rattle.regress_engine_answers.specs.Walked.{led, station_at}
-use Rattle.regress_engine_answers.proofs.WalkLemmas.{single-led}
+use Rattle.regress_engine_ways.specs.Ways.{led, station_at}
+use Rattle.regress_engine_ways.proofs.OnWay.{single-led}
 use Rattle.regress_engine_linear.proofs.ExitWays.{single-body, single-stands}
 use Rattle.regress_engine_linear.proofs.WorkLemmas.{not-single}
 use Rattle.regress_engine_answers.proofs.answers.Answering.led.Goals as goal

@@ -1,7 +1,7 @@
-use Rattle.std.proofs.Common.{◌≡◌, sym, ap, ◌∙◌}
+use Rattle.std.proofs.Common.{sym, ap, ◌∙◌}
 use Rattle.regress_engine_input.specs.Views.{direction_of, input_of}
 use Rattle.regress_engine_search.proofs.PlaceLemmas.{can-read}
-use Rattle.regress_engine_linear.proofs.NextPlaces.{next-is, none-next, turned}
+use Rattle.regress_engine_search.proofs.NextPlaces.{next-is, none-next, turned}
 use Rattle.regress_engine_answers.proofs.answers.Answering.next_place.Goals as goal
 
 pub beside-requires : goal.beside-requires

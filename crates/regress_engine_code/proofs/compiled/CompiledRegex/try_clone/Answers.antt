@@ -7,7 +7,7 @@ use Rattle.regress_front_tables.specs.TableViews.{table, table_known}
 use Rattle.regress_engine_code.proofs.ServingLemmas.{copy-serves}
 use Rattle.regress_engine_insn.specs.Instructions.{Program}
 use Rattle.regress_engine_analysis.specs.Planned.{ArePlanned}
-use Rattle.regress_engine_analysis.specs.declared.facts.Facts.{Facts}
+use Rattle.regress_engine_analysis.specs.Shared.{facts_of}
 use Rattle.regress_engine_insn.specs.ProgramViews.{program_from, target_from}
 use Rattle.regress_engine_code.specs.Laid.{IsLaid}
 use Rattle.regress_engine_code.specs.Standing.{program_of}
@@ -20,11 +20,11 @@ invariant_of-result c =
     let same : program_from c.in_ok-to_vec.field-0.items c.in_ok-copies_of.field-0.items self.loops self.groups self.units ≡ program_of self = search rules in
     let laid : ∥ IsLaid (target_from (program_of self) self.tables self.flags) copy ∥₁ = ∥∥₁_elim self.laid ∥∥₁_prop
     (λ (n, t, formed, layout, serves). ∣ (n, t, formed, layout, copy-serves self.units t self.start_pred copy c.in_ok-copy.ensures serves) ∣₁) in
-    let facts : c.in_ok-try_clone-2.field-0.facts.items ≡ self.plan.facts.items = c.in_ok-try_clone-2.ensures.facts in
+    let facts : facts_of c.in_ok-try_clone-2.field-0 ≡ facts_of self.plan = c.in_ok-try_clone-2.ensures.facts in
     let shared : table c.in_ok-try_clone.field-0 ≡ table self.tables = ap table_known c.in_ok-try_clone.ensures in
     record {
       laid = subst (λ (x : Table). ∥ IsLaid (record { program = program_from c.in_ok-to_vec.field-0.items c.in_ok-copies_of.field-0.items self.loops self.groups self.units; table = x; unicode = is_unicode (options self.flags) }) copy ∥₁)
           (sym shared) (subst (λ (p : Program). ∥ IsLaid (target_from p self.tables self.flags) copy ∥₁) (sym same) laid);
-      planned = subst (λ (p : Program). ArePlanned p c.in_ok-try_clone-2.field-0.facts.items) (sym same) (subst (ArePlanned (program_of self)) (sym facts) self.planned);
+      planned = subst (λ (p : Program). ArePlanned p (facts_of c.in_ok-try_clone-2.field-0)) (sym same) (subst (ArePlanned (program_of self)) (sym facts) self.planned);
       submatches = search rules;
     }

@@ -11,5 +11,5 @@ use Rattle.regress_engine_linear.proofs.contents.Passage.lead_through.Given as g
 abbrev pub invariant-loop-at : goal.invariant-loop-at
 invariant-loop-at l = record {
   left : (program : Program) → program.instructions ≡ map instruction l.insns
-      → tested (leads_inside l.self.nests l.self.at l.self.first l.self.last l.self.end) l.insns l.at ≡ all_pass (leads_inside l.self.nests l.self.at l.self.first l.self.last l.self.end) 0 program.instructions;
+      → tested (leads_inside l.self.singles l.self.at l.self.first l.self.last l.self.end) l.insns l.at ≡ all_pass (leads_inside l.self.singles l.self.at l.self.first l.self.last l.self.end) 0 program.instructions;
 }

@@ -9,7 +9,7 @@ pub returns-then-not-leaves_groups : goal.returns-then-not-leaves_groups
 returns-then-not-leaves_groups c program are =
     let at = c.loop-at.at in
     let within : at < length c.args.insns.now = omega (arith, c.loop-at-test.true) in
-    sym (tested-on (leaves_groups (heights_of c.args.self.now) program) c.args.insns.now at Goal false within (sym (c.leaves_groups.ensures program are) ∙ c.if-not-leaves_groups.true))
+    sym (tested-on (leaves_groups (heights_of c.args.self.now) program) c.args.insns.now at Goal false within (sym (c.leaves_groups.ensures program are (c.once_until-once.ensures program are)) ∙ c.if-not-leaves_groups.true))
     ∙ c.loop-at.invariant.left program are
 
 pub loop-at-preserved : goal.loop-at-preserved
@@ -17,7 +17,7 @@ loop-at-preserved c = record {
   left = λ program are.
       let at = c.loop-at.at in
       let within : at < length c.args.insns.now = omega (arith, c.loop-at-test.true) in
-      sym (tested-on (leaves_groups (heights_of c.args.self.now) program) c.args.insns.now at Goal true within (sym (c.leaves_groups.ensures program are) ∙ c.if-not-leaves_groups.false))
+      sym (tested-on (leaves_groups (heights_of c.args.self.now) program) c.args.insns.now at Goal true within (sym (c.leaves_groups.ensures program are (c.once_until-once.ensures program are)) ∙ c.if-not-leaves_groups.false))
       ∙ c.loop-at.invariant.left program are;
 }
 

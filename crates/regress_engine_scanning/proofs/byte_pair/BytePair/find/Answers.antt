@@ -1,40 +1,9 @@
-use Rattle.std.proofs.Common.{◌≡◌, true, arith, bit_and}
-use Rattle.std.proofs.lemmas.Nat.{and_le_l}
+use Rattle.std.proofs.Common.{◌≡◌, true, subst}
+use Rattle.std.proofs.lemmas.List.{map-id}
+use Rattle.regress_engine_scanning.specs.Least.{IsLeast}
 use Rattle.regress_engine_scanning.specs.BytePairs.{begins_pair}
-use Rattle.regress_engine_scanning.specs.NibbleSets.{nibble_set_contains}
-use Rattle.regress_engine_scanning.proofs.ByteLemmas.{is-there}
-use Rattle.regress_engine_scanning.proofs.MarkLemmas.{marked-least, unmarked}
-use Rattle.regress_engine_scanning.proofs.PairMarks.{pair-marks, pair-parts}
 use Rattle.regress_engine_scanning.proofs.byte_pair.BytePair.find.Goals as goal
 
-pub returns-then-marked-ne0-clause-least : goal.returns-then-marked-ne0-clause-least
-returns-then-marked-ne0-clause-least c =
-    let a = c.args in
-    let one = c.marks.result in
-    let other = c.marks-in-loop-from.result in
-    let tells = pair-marks a.self.now a.text.now c.loop-from.from one other (omega arith) c.marks.ensures c.marks-in-loop-from.ensures in
-    marked-least (λ k. begins_pair a.self.now a.text.now k ≡ true) 16 a.offset c.loop-from.from (bit_and one other) c.loop-from.invariant.low c.loop-from.invariant.none tells
-    (omega (arith, c.if-marked-ne0.true)) (omega (arith, and_le_l one other))
-
-pub returns-then-marked-ne0-clause-inside : goal.returns-then-marked-ne0-clause-inside
-returns-then-marked-ne0-clause-inside c =
-    let a = c.args in
-    let one = c.marks.result in
-    let other = c.marks-in-loop-from.result in
-    let tells = pair-marks a.self.now a.text.now c.loop-from.from one other (omega arith) c.marks.ensures c.marks-in-loop-from.ensures in
-    let found = marked-least (λ k. begins_pair a.self.now a.text.now k ≡ true) 16 a.offset c.loop-from.from (bit_and one other) c.loop-from.invariant.low c.loop-from.invariant.none tells
-    (omega (arith, c.if-marked-ne0.true)) (omega (arith, and_le_l one other)) in
-    is-there (nibble_set_contains a.self.now.first) a.text.now _ (pair-parts a.self.now a.text.now _ found.1).0
-
-pub loop-from-preserved : goal.loop-from-preserved
-loop-from-preserved c =
-    let a = c.args in
-    let one = c.marks.result in
-    let other = c.marks-in-loop-from.result in
-    let low = c.loop-from.invariant.low in
-    let tells = pair-marks a.self.now a.text.now c.loop-from.from one other (omega arith) c.marks.ensures c.marks-in-loop-from.ensures in
-    record {
-      low = omega (arith, low);
-      high = omega arith;
-      none = unmarked (λ k. begins_pair a.self.now a.text.now k ≡ true) 16 a.offset c.loop-from.from (bit_and one other) low c.loop-from.invariant.none tells (omega (arith, c.if-marked-ne0.false));
-    }
+pub returns-clause-least : goal.returns-clause-least
+returns-clause-least c =
+    subst (λ units. IsLeast (λ k. begins_pair c.args.self.now units k ≡ true) c.args.offset c.find_among.result) (map-id c.args.text.now) c.find_among.ensures.least

@@ -1,0 +1,3 @@
+pub mod OnWay
+pub mod Through
+pub mod Ends
