@@ -401,11 +401,10 @@ static inline int32_t regress_pattern_text(regress_pattern *pattern, char *buffe
  * regress_share hands it on. What isn't linear is worked out anew at each call, in less time than compiling takes.
  *
  * A pattern is linear that has no back reference; whose repetitions have no greatest number, or 1, and a least number of 0 or 1, or are
- * of one character and have numbers up to 256; in which nothing that may be empty is repeated; whose lookarounds are negated, or have no
- * groups or no quantifiers inside, or quantifiers of single characters where they are visited at most once: behind a `^` without `m` that
- * begins the pattern, with no other quantifier before; and whose atomic groups have no quantifiers inside, and contents that are together
- * no longer than eight times its program. That has at most 65,536 instructions. Where memory is refused the answer is
- * REGRESS_OUT_OF_MEMORY, or 0. The caller keeps: no other call has the handle. */
+ * of one character and have numbers up to 256; in which nothing that may be empty is repeated; and whose lookarounds are negated, or have
+ * no groups or no quantifiers inside, or quantifiers of single characters where they are visited at most once: behind a `^` without `m`
+ * that begins the pattern, with no other quantifier before. Its program has at most 65,536 instructions. Where memory is refused the answer
+ * is REGRESS_OUT_OF_MEMORY, or 0. The caller keeps: no other call has the handle. */
 static inline int32_t regress_is_linear(regress_pattern *pattern) {
   return pattern == NULL ? REGRESS_NULL : regress_raw_is_linear(pattern);
 }

@@ -393,11 +393,10 @@ class Pattern:
         the string is. A search without a bound goes no other way for it.
 
         A pattern is linear that has no back reference; whose repetitions have no greatest number, or 1, and a least number of 0 or 1,
-        or are of one character and have numbers up to 256; in which nothing that may be empty is repeated; whose lookarounds are
+        or are of one character and have numbers up to 256; in which nothing that may be empty is repeated; and whose lookarounds are
         negated, or have no groups or no quantifiers inside, or quantifiers of single characters where they are visited at most once:
-        behind a `^` without `m` that begins the pattern, with no other quantifier before; and whose atomic groups have no quantifiers
-        inside, and contents that are together no longer than eight times its program. That has at most 65,536 instructions. Where
-        memory for the tables is refused it isn't known to be. To work it out takes less time than compiling did.
+        behind a `^` without `m` that begins the pattern, with no other quantifier before. Its program has at most 65,536 instructions.
+        Where memory for the tables is refused it isn't known to be. To work it out takes less time than compiling did.
         """
         code = _is_linear(self._compiled)
         _check(code)

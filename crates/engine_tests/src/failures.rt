@@ -262,6 +262,12 @@ const HOSTILE: &[HostileRow] = &[
     // Those that turn the direction are told of by levels, and atomic groups through those inside.
     ("(?:(?<=(?=a*b)a)a|a)*c", "", "a", 20_000, "b", None),
     ("(?:(?>a(?>a|ab)))*c", "", "a", 20_000, "", None),
+    // Contents of atomic groups that repeat.
+    ("(?>a+)b", "", "a", 20_000, "", None),
+    ("(?>a+)b", "", "a", 20_000, "b", Some((0, 20_001))),
+    ("(?>(?:a|b)+)c", "", "ab", 10_000, "", None),
+    ("(?>(?:a|b)+)c", "", "ab", 10_000, "c", Some((0, 20_001))),
+    ("(?:(?>(?:a|ab)*)b)*c", "", "a", 20_000, "", None),
     // What is visited once may have loops of one character.
     (
         "^(?=(.*b))(?=.*([ac])).{8,}$",

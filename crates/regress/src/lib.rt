@@ -38,8 +38,8 @@ pub use regress_front::{
 };
 pub use regress_match::{Groups, Match, NamedGroups, Range};
 pub use regress_programs::{
-    AsciiMatches, Compiled, LINEAR_STEPS, MOST_ADDRESSES, MOST_REMEMBERED, MOST_REPEATS, MOST_TOLD,
-    Matches, Scratch, SearchError, Searcher, Ucs2Matches, Utf16Matches,
+    AsciiMatches, Compiled, LINEAR_STEPS, MOST_ADDRESSES, MOST_KEPT, MOST_REMEMBERED, MOST_REPEATS,
+    MOST_TOLD, Matches, Scratch, SearchError, Searcher, Ucs2Matches, Utf16Matches,
     programs_of_trees_are_of_patterns,
 };
 pub use regress_replacing::{ReplacementSyntax, escape, expand};

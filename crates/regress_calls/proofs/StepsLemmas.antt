@@ -1,11 +1,11 @@
 -- How many steps are enough, also in shorter texts, and that they are few.
-use Rattle.std.specs.Prelude.{◌≡◌, ℕ, suc, ◌+◌, ◌*◌, ◌^◌, ◌≤◌, Bool, true, false, Option, Some, None, IfSome, if◌then◌else◌, length, nat_le, nat_lt, unwrap_or}
+use Rattle.std.specs.Prelude.{◌≡◌, ℕ, suc, ◌+◌, ◌*◌, ◌^◌, ◌<◌, ◌≤◌, ◌&&◌, Bool, true, false, Option, Some, None, IfSome, if◌then◌else◌, length, nat_le, nat_lt, unwrap_or}
 use Rattle.std.proofs.Common.{refl, sym, subst, ◌∙◌, arith}
 use Rattle.std.proofs.lemmas.Bool.{and_from, and_parts, cond-true, false≢true, le-leb, leb-true, lt-ltb, ltb-true}
 use Rattle.std.proofs.lemmas.Nat.{mul-le}
 use Rattle.regress_engine_linear.specs.LinearViews.{heights_in}
 use Rattle.regress_engine_linear.specs.declared.testing.LinearTable.{LinearTable}
-use Rattle.regress_engine_exec.specs.Turned.{fits_told, has_enough, may_turn, most_told}
+use Rattle.regress_engine_exec.specs.Turned.{fits_told, has_enough, may_turn, most_kept, most_told}
 use Rattle.regress_programs.specs.Tables.{byte_table_of, unit_table_of}
 use Rattle.regress.specs.Linear.{AreEnough}
 use Rattle.regress.specs.declared.api.Regex.{Regex}
@@ -25,13 +25,25 @@ module _ (t : LinearTable) (units : ℕ) (fits : fits_told t units ≡ true) whe
   abbrev order : ℕ
   order = length (heights_in t).order
 
+  abbrev Fits : ℕ → Type 0
+  Fits n = (n < most_told) × (order * suc n ≤ most_told) × (t.inside * suc n ≤ most_kept)
+
+  -- what fits is few, short and small
+  parts : Fits units
+  parts =
+      let (few, rest) = and_parts (nat_lt units most_told) (nat_le (order * suc units) most_told && nat_le (t.inside * suc units) most_kept) fits in
+      let (small, kept) = and_parts (nat_le (order * suc units) most_told) (nat_le (t.inside * suc units) most_kept) rest in
+      (ltb-true units most_told few, leb-true (order * suc units) most_told small, leb-true (t.inside * suc units) most_kept kept)
+
   -- the table of a shorter text fits
   fits-shorter : (less : ℕ) → less ≤ units → fits_told t less ≡ true
   fits-shorter less short =
-      let (few, small) = and_parts (nat_lt units most_told) (nat_le (order * suc units) most_told) fits in
+      let (few, small, kept) = parts in
       let below : order * suc less ≤ order * suc units = mul-le order (suc less) order (suc units) (omega arith) (omega (arith, short)) in
-      and_from (nat_lt less most_told) (nat_le (order * suc less) most_told) (lt-ltb less most_told (omega (arith, ltb-true units most_told few, short)))
-      (le-leb (order * suc less) most_told (omega (arith, below, leb-true (order * suc units) most_told small)))
+      let inside : t.inside * suc less ≤ t.inside * suc units = mul-le t.inside (suc less) t.inside (suc units) (omega arith) (omega (arith, short)) in
+      and_from (nat_lt less most_told) (nat_le (order * suc less) most_told && nat_le (t.inside * suc less) most_kept) (lt-ltb less most_told (omega (arith, few, short)))
+      (and_from (nat_le (order * suc less) most_told) (nat_le (t.inside * suc less) most_kept) (le-leb (order * suc less) most_told (omega (arith, below, small)))
+      (le-leb (t.inside * suc less) most_kept (omega (arith, inside, kept))))
 
   -- and fewer steps are enough there
   steps-shorter : (less : ℕ) → less ≤ units → 4 * (order * (less + 64)) ≤ 4 * (order * (units + 64))
@@ -41,9 +53,9 @@ module _ (t : LinearTable) (units : ℕ) (fits : fits_told t units ≡ true) whe
   -- so many steps are enough for whatever fits
   steps-few : 4 * (order * (units + 64)) ≤ 2 ^ 37
   steps-few =
-      let (few, small) = and_parts (nat_lt units most_told) (nat_le (order * suc units) most_told) fits in
+      let (few, small, kept) = parts in
       let one : order * 1 ≤ order * suc units = mul-le order 1 order (suc units) (omega arith) (omega arith) in
-      let all : order * suc units ≤ 2 ^ 29 = leb-true (order * suc units) most_told small in
+      let all : order * suc units ≤ 2 ^ 29 = small in
       omega (arith, one, all)
 
 -- what turns to a table turns to one in a shorter text, and with so many steps

@@ -24,9 +24,9 @@ use Rattle.regress_engine_memory.specs.Under.{IsFurther}
 use Rattle.regress_engine_memory.proofs.Onward.{flows-unreferring, room-less}
 use Rattle.regress_engine_memory.proofs.Taking.{advance-takes, one-takes, taking-unreferring}
 use Rattle.regress_engine_linear.specs.Answered.{AreExitsRight, IsAnswered, answer_at, exits_at, exits_value_at, one_at, one_beyond}
-use Rattle.regress_engine_answers.specs.AnswerTables.{exits_by, told_by}
-use Rattle.regress_engine_answers.specs.Filled.{IsExitRight, IsFilled, IsFilledTo, IsPast, IsPlaced, IsRight, way_of}
-use Rattle.regress_engine_ways.specs.Ways.{value_at}
+use Rattle.regress_engine_answers.specs.AnswerTables.{ends_by, exit_ends_by, exits_by, told_by}
+use Rattle.regress_engine_answers.specs.Filled.{IsEndRight, IsExitEndRight, IsExitRight, IsFilled, IsFilledTo, IsPast, IsPlaced, IsRight, way_of}
+use Rattle.regress_engine_ways.specs.Ways.{AreBeyondEndedAt, IsEndedAt, value_at}
 use Rattle.regress_engine_linear.specs.Linear.{IsLinear, too_long}
 use Rattle.regress_engine_linear.specs.Ranks.{Ranking, AreUnboundedOrOnce, Inside, IsBeyond, Lowers, is_even}
 use Rattle.regress_engine_linear.specs.RankTables.{Heights, IsBefore, address_at, forward_at, index_at, level_at, outside_at, rank_at, ranking_of}
@@ -41,7 +41,7 @@ use Rattle.regress_engine_linear.proofs.ExitAnswers.{exits-told}
 use Rattle.regress_engine_linear.proofs.Formulas.{answers-are}
 use Rattle.regress_engine_linear.proofs.Running.{further-on}
 use Rattle.regress_engine_linear.proofs.Within.{each-lies}
-use Rattle.regress_engine_ways.proofs.Ends.{atomic-answers}
+use Rattle.regress_engine_ways.proofs.Ends.{AreEndsAhead, atomic-answers}
 use Rattle.regress_engine_ways.proofs.OnWay.{may-pass}
 use Rattle.regress_engine_search.specs.Places.{offset_of}
 use Rattle.regress_engine_linear.proofs.WorkLemmas.{bit-elsewhere, bit-here, room-end, exits-value-is, reads-there}
@@ -82,28 +82,37 @@ module _ (flow : Flow) (h : Heights) (v : View) (all : AreOfKind v.kind v.units)
 
   -- what stands at an index is told of
   pub skipped : (a : Answers) (l : Level) (k o : ℕ) → IsFilled flow h program v a l k o
-      → ((b : ℕ) → b < length h.ranks → index_at h b ≡ k → IsRight flow h program v a b o × IsExitRight flow h program v a b o) → IsFilled flow h program v a l (suc k) o
+      → ((b : ℕ) → b < length h.ranks → index_at h b ≡ k → (IsRight flow h program v a b o × IsExitRight flow h program v a b o) × (IsEndRight flow h program v a b o × IsExitEndRight flow h program v a b o))
+      → IsFilled flow h program v a l (suc k) o
   skipped a l k o filled told = record {
-    right = λ b q within inside past. right b q within inside past;
+    right = λ b q within inside past. further (λ b q. IsRight flow h program v a b q × IsExitRight flow h program v a b q) filled.right (λ b within e. (told b within e).0) b q within inside past;
     fresh = λ b q inside unpast. filled.fresh b q inside (λ past. unpast (past-later l k o b q past));
     spots = filled.spots;
+    ends = λ b q within inside past. further (λ b q. IsEndRight flow h program v a b q × IsExitEndRight flow h program v a b q) filled.ends (λ b within e. (told b within e).1) b q within inside past;
   }
     where
-      right : (b q : ℕ) → b < length h.ranks → q ≤ last → IsPast flow h program v l (suc k) o b q → IsRight flow h program v a b q × IsExitRight flow h program v a b q
-      right b q within inside (inl less) = filled.right b q within inside (inl less)
-      right b q within inside (inr (low, inl less)) = filled.right b q within inside (inr (low, inl less))
-      right b q within inside (inr (low, inr (same, less))) = by_index (cases_eq (index_at h b) k)
+      further : (P : ℕ → ℕ → Type 0) → ((b q : ℕ) → b < length h.ranks → q ≤ last → IsPast flow h program v l k o b q → P b q) → ((b : ℕ) → b < length h.ranks → index_at h b ≡ k → P b o)
+          → (b q : ℕ) → b < length h.ranks → q ≤ last → IsPast flow h program v l (suc k) o b q → P b q
+      further P before here b q within inside (inl less) = before b q within inside (inl less)
+      further P before here b q within inside (inr (low, inl less)) = before b q within inside (inr (low, inl less))
+      further P before here b q within inside (inr (low, inr (same, less))) = by_index (cases_eq (index_at h b) k)
         where
-          by_index : (index_at h b ≡ k) ⊎ (index_at h b ≡ k → ⊥) → IsRight flow h program v a b q × IsExitRight flow h program v a b q
-          by_index (inl e) = subst (λ x. IsRight flow h program v a b x × IsExitRight flow h program v a b x) (sym same) (told b within e)
-          by_index (inr other) = filled.right b q within inside (inr (low, inr (same, below (index_at h b) k less other)))
+          by_index : (index_at h b ≡ k) ⊎ (index_at h b ≡ k → ⊥) → P b q
+          by_index (inl e) = subst (P b) (sym same) (here b within e)
+          by_index (inr other) = before b q within inside (inr (low, inr (same, below (index_at h b) k less other)))
 
   -- what reads characters elsewhere than at a place is never come to
   pub never-come : (a : Answers) (b o : ℕ) (i : Instruction) → Stands program b i → reads_character i ≡ true → (IsAtPlace (reading_of v) o → ⊥)
-      → IsRight flow h program v a b o × IsExitRight flow h program v a b o
+      → (IsRight flow h program v a b o × IsExitRight flow h program v a b o) × (IsEndRight flow h program v a b o × IsExitEndRight flow h program v a b o)
   never-come a b o i here reads elsewhere = (
-    λ loops groups running along. absurd (elsewhere (along (whole b o loops groups) i now here reads).0),
-    λ least most greedy body there stands place. absurd (elsewhere place),
+    (
+      λ loops groups running along. absurd (elsewhere (along (whole b o loops groups) i now here reads).0),
+      λ least most greedy body there stands place. absurd (elsewhere place),
+    ),
+    (
+      λ within loops groups running along n end run. absurd (elsewhere (along (whole b o loops groups) i now here reads).0),
+      λ within least most greedy body there stands place. absurd (elsewhere place),
+    ),
   )
 
   -- one address has an index
@@ -120,6 +129,7 @@ module _ (flow : Flow) (h : Heights) (v : View) (all : AreOfKind v.kind v.units)
       → IsFilled flow h program v a l l.to o → IsFilled flow h program v a l l.from q
   next-offset a l o q low next filled = record {
     right = λ b p within inside past. filled.right b p within inside (back b p inside past);
+    ends = λ b p within inside past. filled.ends b p within inside (back b p inside past);
     fresh = λ b p inside unpast. filled.fresh b p inside (λ past. unpast (on b p past));
     spots = filled.spots;
   }
@@ -146,6 +156,7 @@ module _ (flow : Flow) (h : Heights) (v : View) (all : AreOfKind v.kind v.units)
   pub level-begins : (a : Answers) (l : Level) → IsFilledTo flow h program v a l.from → IsFilled flow h program v a l l.from (offset_of l.forward last 0)
   level-begins a l filled = record {
     right = λ b q within inside past. filled.right b q within inside (before b q inside past);
+    ends = λ b q within inside past. filled.ends b q within inside (before b q inside past);
     fresh = λ b q inside unpast. filled.fresh b q inside (λ less. unpast (inl less));
     spots = filled.spots;
   }
@@ -163,6 +174,7 @@ module _ (flow : Flow) (h : Heights) (v : View) (all : AreOfKind v.kind v.units)
   pub level-ends : (a : Answers) (l : Level) → l.from < l.to → IsFilled flow h program v a l l.to (offset_of l.forward last last) → IsFilledTo flow h program v a l.to
   level-ends a l some filled = record {
     right = λ b q within inside less. filled.right b q within inside (inr (less, past b q inside less));
+    ends = λ b q within inside less. filled.ends b q within inside (inr (less, past b q inside less));
     fresh = λ b q inside unpast. filled.fresh b q inside (λ past. unpast (before b q past));
     spots = filled.spots;
   }
@@ -205,10 +217,10 @@ module _ (flow : Flow) (h : Heights) (v : View) (all : AreOfKind v.kind v.units)
     pub within-ranks : at < length h.ranks
     within-ranks = address-there k k-within
 
-    index : index_at h at ≡ k
+    pub index : index_at h at ≡ k
     index = index-of h (length program.instructions) linear.placed k k-within
 
-    way : forward_at h at ≡ forward
+    pub way : forward_at h at ≡ forward
     way = level.way k from to
 
     abbrev told : ℕ → ℕ → Bool
@@ -229,7 +241,7 @@ module _ (flow : Flow) (h : Heights) (v : View) (all : AreOfKind v.kind v.units)
         filled.right b q within inside (inr ((level.all k b from to within same).1, inl (room-less last dir o q further)))
 
     -- so what is ranked lower, or further on, is told of
-    to-right : (b q : ℕ) → b < length h.ranks → level_at h b ≡ level_at h at → q ≤ last → (IsFurther last dir o q ⊎ ((q ≡ o) × (rank_at h b < rank_at h at)))
+    pub to-right : (b q : ℕ) → b < length h.ranks → level_at h b ≡ level_at h at → q ≤ last → (IsFurther last dir o q ⊎ ((q ≡ o) × (rank_at h b < rank_at h at)))
         → IsAnswered flow r program v dir b q (told b q)
     to-right b q within same inside beyond =
         subst (λ d. IsAnswered flow r program v (direction_of d) b q (told b q)) (ap is_even same ∙ way) (by_place beyond).0
@@ -267,40 +279,29 @@ module _ (flow : Flow) (h : Heights) (v : View) (all : AreOfKind v.kind v.units)
         before (inl (same, less)) = inr (sym same, less)
         before (inr deeper) = inl deeper
 
-    -- what lies further on, or is ranked lower, of the level
-    abbrev Past : (b q : ℕ) → Type 0
-    Past b q = (level_at h b ≡ level_at h at) × (IsFurther last dir o q ⊎ ((q ≡ o) × (rank_at h b < rank_at h at)))
-
-    past-right : (b q : ℕ) → b < length h.ranks → q ≤ last → direction_of (forward_at h b) ≡ dir → Past b q → IsAnswered flow r program v dir b q (told b q)
-    past-right b q within inside way' (same, beyond) = to-right b q within same inside beyond
-
-    past-on : (s u : Whole) → Past s.at s.offset → IsBeyond r last dir s u → level_at h u.at ≡ level_at h s.at → Past u.at u.offset
-    past-on s u (same, far) beyond level' = (level' ∙ same, by_place far beyond)
+    -- and so is where runs end from what is, inside of an atomic group
+    pub ends-ahead : AreEndsAhead flow h program v dir (ends_by a) at o
+    ends-ahead b q beyond within lies' same inside =
+        subst (λ d. IsEndedAt flow h program v (direction_of d) b q (ends_by a b q)) (ap is_even same ∙ way) (by_place beyond inside)
       where
-        Beyond : (b q : ℕ) → Type 0
-        Beyond b q = IsFurther last dir o q ⊎ ((q ≡ o) × (rank_at h b < rank_at h at))
-
-        by_place : Beyond s.at s.offset → IsBeyond r last dir s u → Beyond u.at u.offset
-        by_place (inl past) (inl further) = inl (further-on last dir o s.offset u.offset past further)
-        by_place (inl past) (inr (there, less)) = inl (subst (IsFurther last dir o) (sym there) past)
-        by_place (inr (there, less)) (inl further) = inl (subst (λ x. IsFurther last dir x u.offset) there further)
-        by_place (inr (there, less)) (inr (there', less')) = inr (there' ∙ there, omega (arith, less, less'))
+        by_place : IsFurther last dir o q ⊎ ((q ≡ o) × (rank_at h b < rank_at h at)) → IsEndRight flow h program v a b q
+        by_place (inl further) = (filled.ends b q within lies' (inr ((level.all k b from to within same).1, inl (room-less last dir o q further)))).0
+        by_place (inr (there, less)) =
+            let before = index-lower h (length program.instructions) linear.placed b at (subst (λ n. b < n) linear.count within) (subst (λ n. at < n) linear.count within-ranks) (inr (sym same, less)) in
+            (filled.ends b q within lies' (inr (omega (arith, before, index, to), inr (there, omega (arith, before, index))))).0
 
     -- an atomic group
-    atomic-right : (hs : List Marks) (low high continuation : ℕ) → Stands program at (code.submatch atomic low high continuation)
-        → IsAnswered flow r program v dir at o (value_at h told program (input_of v) dir hs (code.submatch atomic low high continuation) at o)
-    atomic-right hs low high continuation here =
-        atomic-answers flow h v all program suits (may-pass flow h program v linear short) dir told Past past-right past-on hs low high continuation at o here
-        (linear.leaves at low high continuation atomic here) lies (both.1.level refl, inr (refl, atomic-lower r at continuation both.1)) (λ q beyond. (both.0.level, beyond))
-      where
-        both : Lowers r 1 at continuation × Inside r atomic at continuation
-        both = linear.ranked at (code.submatch atomic low high continuation) (calm-there at (code.submatch atomic low high continuation) here) here
+    atomic-right : (low high continuation : ℕ) → Stands program at (code.submatch atomic low high continuation)
+        → IsAnswered flow r program v dir at o (value_at told (ends_by a) program (input_of v) dir (code.submatch atomic low high continuation) at o)
+    atomic-right low high continuation here =
+        atomic-answers flow h v all program suits (may-pass flow h program v linear short) dir told (ends_by a) at o ends-ahead low high continuation here lies
+        (λ b q beyond within inside same. to-right b q within same inside beyond)
 
     -- What is worked out is so.
-    pub value-right : (hs : List Marks) (i : Instruction) → Stands program at i → (reads_character i ≡ true → IsAtPlace (reading_of v) o)
-        → IsAnswered flow r program v dir at o (value_at h told program (input_of v) dir hs i at o)
-    value-right hs code.goal here reads = λ loops groups running along. (1, Some (whole at o loops groups), finds here, refl)
-    value-right hs (code.submatch (lookaround negated backward) low high continuation) here reads =
+    pub value-right : (i : Instruction) → Stands program at i → (reads_character i ≡ true → IsAtPlace (reading_of v) o)
+        → IsAnswered flow r program v dir at o (value_at told (ends_by a) program (input_of v) dir i at o)
+    value-right code.goal here reads = λ loops groups running along. (1, Some (whole at o loops groups), finds here, refl)
+    value-right (code.submatch (lookaround negated backward) low high continuation) here reads =
         let (lower, inside) = linear.ranked at (code.submatch (lookaround negated backward) low high continuation) (calm-there at (code.submatch (lookaround negated backward) low high continuation) here) here in
         look-answers flow r v all program suits linear.flows linear.ranked dir negated backward low high continuation at o (told (suc at) o) (told continuation o) here
         (inside-right (lookaround negated backward) continuation inside) (to-right continuation o lower.within lower.level lies (inr (refl, by_rank lower.rank)))
@@ -308,8 +309,8 @@ module _ (flow : Flow) (h : Heights) (v : View) (all : AreOfKind v.kind v.units)
         by_rank : (1 ≤ 0) ⊎ (rank_at h continuation < rank_at h at) → rank_at h continuation < rank_at h at
         by_rank (inl never) = absurd (omega (arith, never))
         by_rank (inr less) = less
-    value-right hs (code.submatch atomic low high continuation) here reads = atomic-right hs low high continuation here
-    value-right hs i here reads = plain-right i here refl reads
+    value-right (code.submatch atomic low high continuation) here reads = atomic-right low high continuation here
+    value-right i here reads = plain-right i here refl reads
 
     -- what is told of the exits of a one-character loop
     module _ (least most : ℕ) (greedy : Bool) (i : Instruction) (here : Stands program at (code.single_loop least most greedy)) (there : Stands program (suc at) i)
@@ -352,7 +353,7 @@ module _ (flow : Flow) (h : Heights) (v : View) (all : AreOfKind v.kind v.units)
 
     module _ (a' : Answers) (value exit : Bool) (told-is : (b q : ℕ) → told_by a' b q ≡ (told_by a b q || (((b == at) && (o == q)) && value)))
         (exits-are : (b q : ℕ) → exits_by a' b q ≡ (exits_by a b q || (((b == at) && (o == q)) && exit))) where
-      told-same : (b q : ℕ) → (b ≡ at → q ≡ o → ⊥) → told_by a' b q ≡ told_by a b q
+      pub told-same : (b q : ℕ) → (b ≡ at → q ≡ o → ⊥) → told_by a' b q ≡ told_by a b q
       told-same b q other = told-is b q ∙ bit-elsewhere at o b q (told_by a b q) value other
 
       exits-same' : (b q : ℕ) → (b ≡ at → q ≡ o → ⊥) → exits_by a' b q ≡ exits_by a b q
@@ -443,8 +444,10 @@ module _ (flow : Flow) (h : Heights) (v : View) (all : AreOfKind v.kind v.units)
       pub filled-on : IsAnswered flow r program v dir at o value → ((i : Instruction) × Stands program at i × (reads_character i ≡ true → IsAtPlace (reading_of v) o))
           → ((least most : ℕ) (greedy : Bool) (i : Instruction) → Stands program at (code.single_loop least most greedy) → Stands program (suc at) i → IsAtPlace (reading_of v) o
           → exit ≡ one_beyond told program v dir at i o)
+          → ((b q : ℕ) → (b ≡ at → q ≡ o → ⊥) → (ends_by a' b q ≡ ends_by a b q) × (exit_ends_by a' b q ≡ exit_ends_by a b q))
+          → IsEndRight flow h program v a' at o × IsExitEndRight flow h program v a' at o
           → IsFilled flow h program v a' l (suc k) o
-      filled-on is spot exits = record {
+      filled-on is spot exits ends-same ends-here = record {
         right = λ b q within inside past. right b q within inside past (cases_lt (index_at h b) l.from);
         fresh = λ b q inside unpast.
             let other : b ≡ at → q ≡ o → ⊥ = λ e f. unpast (let same = ap (index_at h) e in inr (omega (arith, same, index, to), inr (f, omega (arith, same, index)))) in
@@ -452,8 +455,31 @@ module _ (flow : Flow) (h : Heights) (v : View) (all : AreOfKind v.kind v.units)
             let known = filled.fresh b q inside still in
             (told-same b q other ∙ known.0, exits-same' b q other ∙ known.1);
         spots = spots;
+        ends = λ b q within inside past. ends b q within inside past;
       }
         where
+          keeps-ends : (b q : ℕ) → (b ≡ at → q ≡ o → ⊥) → IsEndRight flow h program v a b q × IsExitEndRight flow h program v a b q
+              → IsEndRight flow h program v a' b q × IsExitEndRight flow h program v a' b q
+          keeps-ends b q other (right, exits) =
+              let (same, same') = ends-same b q other in (
+                λ within. subst (IsEndedAt flow h program v (way_of flow h program v b) b q) (sym same) (right within),
+                λ within least most greedy body here there place.
+                    subst (AreBeyondEndedAt flow h program v (way_of flow h program v b) b greedy body q) (sym same') (exits within least most greedy body here there place),
+              )
+
+          ends : (b q : ℕ) → b < length h.ranks → q ≤ last → IsPast flow h program v l (suc k) o b q → IsEndRight flow h program v a' b q × IsExitEndRight flow h program v a' b q
+          ends b q within inside (inl less) = keeps-ends b q (λ e f. let same = ap (index_at h) e in omega (arith, same, less, index, from)) (filled.ends b q within inside (inl less))
+          ends b q within inside (inr (low, inl less)) =
+              keeps-ends b q (λ e f. let same = ap (room last dir) f in omega (arith, same, less)) (filled.ends b q within inside (inr (low, inl less)))
+          ends b q within inside (inr (low, inr (same, less))) = by_index (cases_eq (index_at h b) k)
+            where
+              by_index : (index_at h b ≡ k) ⊎ (index_at h b ≡ k → ⊥) → IsEndRight flow h program v a' b q × IsExitEndRight flow h program v a' b q
+              by_index (inl e) =
+                  subst (λ x. IsEndRight flow h program v a' x q × IsExitEndRight flow h program v a' x q) (sym (one-at k b within e))
+                  (subst (λ x. IsEndRight flow h program v a' at x × IsExitEndRight flow h program v a' at x) (sym same) ends-here)
+              by_index (inr other) =
+                  keeps-ends b q (λ e f. other (ap (index_at h) e ∙ index)) (filled.ends b q within inside (inr (low, inr (same, below (index_at h b) k less other))))
+
           spots : IsPlaced program v a'
           spots b q told-now = elim (cases_eq b at) [
             | inr other ↦ filled.spots b q (sym (told-same b q (λ e f. other e)) ∙ told-now)
@@ -498,13 +524,15 @@ module _ (flow : Flow) (h : Heights) (v : View) (all : AreOfKind v.kind v.units)
                   (filled.right b q within inside (inr (low, inr (same, lower))))
 
     -- So it is where an address is worked out by the instruction that stands there.
-    pub worked : (hs : List Marks) → (i : Instruction) → Stands program at i → (reads_character i ≡ true → IsAtPlace (reading_of v) o) → (a' : Answers)
-        → ((b q : ℕ) → told_by a' b q ≡ (told_by a b q || (((b == at) && (o == q)) && value_at h told program (input_of v) dir hs i at o)))
+    pub worked : (i : Instruction) → Stands program at i → (reads_character i ≡ true → IsAtPlace (reading_of v) o) → (a' : Answers)
+        → ((b q : ℕ) → told_by a' b q ≡ (told_by a b q || (((b == at) && (o == q)) && value_at told (ends_by a) program (input_of v) dir i at o)))
         → ((b q : ℕ) → exits_by a' b q ≡ (exits_by a b q || (((b == at) && (o == q)) && exits_value_at told (exits_by a) program (input_of v) dir i at o)))
+        → ((b q : ℕ) → (b ≡ at → q ≡ o → ⊥) → (ends_by a' b q ≡ ends_by a b q) × (exit_ends_by a' b q ≡ exit_ends_by a b q))
+        → IsEndRight flow h program v a' at o × IsExitEndRight flow h program v a' at o
         → IsFilled flow h program v a' l (suc k) o
-    worked hs i here reads a' told-is exits-are =
-        filled-on a' (value_at h told program (input_of v) dir hs i at o) (exits_value_at told (exits_by a) program (input_of v) dir i at o) told-is exits-are (value-right hs i here reads) (i, here, reads)
+    worked i here reads a' told-is exits-are ends-same ends-here =
+        filled-on a' (value_at told (ends_by a) program (input_of v) dir i at o) (exits_value_at told (exits_by a) program (input_of v) dir i at o) told-is exits-are (value-right i here reads) (i, here, reads)
         (λ least most greedy body single there place.
         let one : suc at ≡ at + 1 = omega arith in
         exits-value-is v program suits at least most greedy single told (exits_by a) dir o body (subst (λ b. Stands program b body) one there) i here
-        ∙ exits-right least most greedy body single there place)
+        ∙ exits-right least most greedy body single there place) ends-same ends-here

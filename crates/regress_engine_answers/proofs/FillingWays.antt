@@ -1,15 +1,19 @@
 -- A table of answers is filled from one level to the next.
 use Rattle.std.proofs.Common.{◌≡◌, ℕ, suc, ◌+◌, ◌-◌, ◌*◌, ◌<◌, ◌≤◌, true, false, length, get_or, Result, Ok, Err, OnOk, sym, ap, ◌∙◌, subst, arith}
 use Rattle.std.proofs.lemmas.Option.{slice_get-get_or}
+use Rattle.std.specs.Global.{Vec}
+use Rattle.std.specs.Prelude.{slice_get}
 use Rattle.regress_engine_input.specs.Views.{View, AreOfKind}
 use Rattle.regress_engine_insn.specs.Instructions.{Instruction, Program, Stands}
 use Rattle.regress_engine_insn.specs.Instructions as code
 use Rattle.regress_engine_search.specs.Search.{Suits}
 use Rattle.regress_engine_memory.specs.Flow.{Flow}
-use Rattle.regress_engine_answers.specs.AnswerTables.{exits_by, told_by}
-use Rattle.regress_engine_answers.specs.Filled.{AreRight, IsFilledTo}
+use Rattle.regress_engine_memory.specs.declared.bits.Bits.{Bits}
+use Rattle.regress_engine_linear.specs.Answered.{IsAnswered, one_beyond}
+use Rattle.regress_engine_answers.specs.AnswerTables.{exits_by, in_set, told_by}
+use Rattle.regress_engine_answers.specs.Filled.{AreRight, IsFilledTo, way_of}
 use Rattle.regress_engine_linear.specs.Linear.{IsLinear, too_long}
-use Rattle.regress_engine_linear.specs.RankTables.{ArePlaced, Heights, address_at}
+use Rattle.regress_engine_linear.specs.RankTables.{ArePlaced, Heights, address_at, ranking_of}
 use Rattle.regress_engine_answers.specs.declared.answers.Answers.{Answers}
 use Rattle.regress_engine_answers.specs.Walked.{AreExitsKnown}
 
@@ -38,6 +42,7 @@ module _ (flow : Flow) (h : Heights) (v : View) (all : AreOfKind v.kind v.units)
     empty-filled none none-behind = record {
       right = λ at q within inside less. absurd (omega (arith, less));
       fresh = λ at q inside unpast. (none at q, none-behind at q);
+      ends = λ at q within inside less. absurd (omega (arith, less));
       spots = λ at q is. let never : true ≡ false = sym is ∙ none at q in absurd (cc never);
     }
 
@@ -50,6 +55,18 @@ module _ (flow : Flow) (h : Heights) (v : View) (all : AreOfKind v.kind v.units)
     pub filled-exits : (k : ℕ) → length h.order ≤ k → IsFilledTo flow h program v a k → AreExitsKnown flow h program v a
     filled-exits k whole filled at o within inside =
         (filled.right at o within inside (let less = placed-ranks.index at within in omega (arith, whole, less))).1
+
+    -- another table that tells the same
+    module _ (b : Answers) (offsets : b.offsets ≡ a.offsets) (exits : b.exits ≡ a.exits) where
+      pub right-again : AreRight flow h program v a → AreRight flow h program v b
+      right-again right at q within inside =
+          subst (λ (os : Vec Bits). IsAnswered flow (ranking_of h) program v (way_of flow h program v at) at q (in_set (slice_get os.items at) q)) (sym offsets) (right at q within inside)
+
+      pub exits-again : AreExitsKnown flow h program v a → AreExitsKnown flow h program v b
+      exits-again known at o within inside least most greedy body here there place =
+          ap (λ (os : Vec Bits). in_set (slice_get os.items at) o) exits
+          ∙ known at o within inside least most greedy body here there place
+          ∙ ap (λ (os : Vec Bits). one_beyond (λ c q. in_set (slice_get os.items c) q) program v (way_of flow h program v at) at body o) (sym offsets)
 
 spread : (n a d : ℕ) → n * (a + d) ≡ n * a + n * d
 spread n a d = omega arith

@@ -1,4 +1,7 @@
+pub mod RowLemmas
 pub mod FillLemmas
+pub mod EndKept
+pub mod EndLemmas
 pub mod FillingWays
 pub mod MayWalk
 pub mod Walks

@@ -26,18 +26,19 @@ use Rattle.regress_engine_linear.specs.Ranks.{AreRunning, Inside, IsBeyond, Lowe
 use Rattle.regress_engine_linear.specs.RankTables.{Heights, forward_at, level_at, outside_at, rank_at, ranking_of}
 use Rattle.regress_engine_linear.specs.Answered.{Ends, IsAnswered, ReadsAlong, is_single}
 use Rattle.regress_engine_answers.specs.AnswerTables.{told_by}
-use Rattle.regress_engine_linear.specs.Linear.{AreLoopFree, HaveRanks, is_visited_once}
-use Rattle.regress_engine_ways.specs.Ways.{IsOnWay, is_entered, led, marked, station}
-use Rattle.regress_engine_answers.specs.Walked.{AreExitsTold, GoesOutside, IsInside, MayWalk, Walk, Walks, are_atomic, entered, far, frame, goes, inside_forward, offset_behind, returns, to_end}
+use Rattle.regress_engine_linear.specs.Linear.{AreLoopFree, HaveRanks, StayInside, is_visited_once}
+use Rattle.regress_engine_ways.specs.Ways.{AreKept, IsOnWay, is_entered, led, marked, station}
+use Rattle.regress_engine_answers.specs.Walked.{AreContents, AreExitsTold, GoesOutside, IsInside, MayWalk, Walk, Walks, are_atomic, entered, far, frame, goes, inside_forward, offset_behind, returns, to_end}
 use Rattle.regress_engine_answers.specs.declared.answers.Answers.{Answers}
 use Rattle.regress_engine_answers.specs.declared.walker.Frame.{Frame}
 use Rattle.regress_engine_ways.specs.declared.station.Station.{Station}
 use Rattle.regress_engine_linear.proofs.EndsBeyond.{atomic-lower}
-use Rattle.regress_engine_linear.proofs.PassageLemmas.{fits-inside}
+use Rattle.regress_engine_linear.proofs.PassageLemmas.{fits-inside, stays-fits, through-of}
 use Rattle.regress_engine_search.proofs.MixedLemmas.{mixed-length, mixed-outside, mixed-same}
 use Rattle.regress_engine_linear.proofs.FromStart.{running-first}
 use Rattle.regress_engine_linear.proofs.WorkLemmas.{rank-low}
 use Rattle.regress_engine_ways.proofs.Through.{kept-on, through}
+use Rattle.regress_engine_ways.proofs.Staying.{kept-inside, staying}
 use Rattle.regress_engine_ways.proofs.OnWay.{atomic-into, place-here, ready-here, at-goal, ends-way, look-into, on-way, told-there}
 use Rattle.regress_engine_answers.proofs.MayWalk.{exits-told-of}
 
@@ -107,7 +108,7 @@ module _ (flow : Flow) (h : Heights) (v : View) (all : AreOfKind v.kind v.units)
 
   -- inside of contents too
   nearer-inside : (start : ℕ) (f : Frame) (fs : List Frame) (forward : Bool) (at o : ℕ) (gs : List Marks) → Goes start (f ∷ fs) forward at o gs → (u : Whole)
-      → IsBeyond (ranking_of h) last (direction_of forward) (whole at o [] []) u → u.at < length h.ranks → at < u.at → u.at < f.continuation
+      → IsBeyond (ranking_of h) last (direction_of forward) (whole at o [] []) u → u.at < length h.ranks → (are_atomic (f ∷ fs) ≡ false → at < u.at) → u.at < f.continuation
       → left (f ∷ fs) u.at u.offset < left (f ∷ fs) at o
   nearer-inside start f fs forward at o gs walks u beyond there more less = by_kind (are_atomic (f ∷ fs)) refl
     where
@@ -118,7 +119,39 @@ module _ (flow : Flow) (h : Heights) (v : View) (all : AreOfKind v.kind v.units)
           → (if b then near u.at u.offset else deep + (f.continuation - u.at)) < (if b then near at o else deep + (f.continuation - at))
       by_kind true plain =
           nearer (whole at o [] []) u (subst (λ b. IsBeyond (ranking_of h) last (direction_of b) (whole at o [] []) u) (walk-forward start (f ∷ fs) forward at o gs walks plain) beyond) there
-      by_kind false plain = omega (arith, more, less)
+      by_kind false deep' = let further = more deep' in omega (arith, further, less)
+
+  -- there are contents
+  contents-some : (atomics singles : Bool) (look first high continuation : ℕ) → AreContents atomics singles program look first high continuation → suc look < continuation
+  contents-some true singles look first high continuation free = free.some
+  contents-some false singles look first high continuation free = free.some
+
+  -- where an instruction inside leads is inside, and further where they have no loops
+  stays-in : (atomics singles : Bool) (look first high continuation : ℕ) → AreContents atomics singles program look first high continuation → (dir : Direction) (hs : List Marks)
+      (at o : ℕ) (i : Instruction) → look < at → at < continuation → Stands program at i → (x : Station) → led (told_by a) program (input_of v) dir hs i at o ≡ Some x
+      → (look < x.at) × (x.at < continuation) × (atomics ≡ false → at < x.at)
+  stays-in true singles look first high continuation free dir hs at o i after ahead here x e =
+      let (low, less) = staying program look first high continuation free (told_by a) (input_of v) dir hs at o after x i here ahead e in (low, less, λ never. absurd (cc never))
+  stays-in false singles look first high continuation free dir hs at o i after ahead here x e =
+      let (more, less) = through singles first high continuation (told_by a) program (input_of v) dir hs at o x i (free.leads at i after ahead here) e in
+      (omega (arith, after, more), less, λ deep. more)
+
+  -- and what it writes
+  keeps-in : (atomics singles : Bool) (look first high continuation : ℕ) → AreContents atomics singles program look first high continuation → (dir : Direction)
+      (at o : ℕ) (i : Instruction) (new old : List Marks) → look < at → at < continuation → Stands program at i → AreKept first high new old → AreKept first high (marked dir i o new) old
+  keeps-in true singles look first high continuation free dir at o i new old after ahead here kept =
+      kept-inside first high look continuation dir at o i new old (free.stays at i after ahead here) kept
+  keeps-in false singles look first high continuation free dir at o i new old after ahead here kept =
+      kept-on singles first high continuation dir at o i new old (free.leads at i after ahead here) kept
+
+  -- what is matched by itself there ends inside, and its groups are inside
+  fits-in : (atomics singles : Bool) (look first high continuation : ℕ) → AreContents atomics singles program look first high continuation → (at : ℕ) (kind : Submatch) (low up behind : ℕ)
+      → look < at → at < continuation → Stands program at (code.submatch kind low up behind) → (behind < continuation) × (first ≤ low) × (up ≤ high)
+  fits-in true singles look first high continuation free at kind low up behind after ahead here =
+      let (further, inside, from, upto) = stays-fits kind at low up behind first high look continuation (free.stays at (code.submatch kind low up behind) after ahead here) in
+      (inside, from, upto)
+  fits-in false singles look first high continuation free at kind low up behind after ahead here =
+      fits-inside singles kind at low up behind first high continuation (free.leads at (code.submatch kind low up behind) after ahead here)
 
   -- Where an instruction leads on the walk goes on, and comes nearer.
   walk-on : (start : ℕ) (frames : List Frame) (forward : Bool) (at o : ℕ) (gs hs : List Marks) → Goes start frames forward at o gs → (i : Instruction) → Stands program at i → is_entered i ≡ false
@@ -132,19 +165,17 @@ module _ (flow : Flow) (h : Heights) (v : View) (all : AreOfKind v.kind v.units)
       )
   walk-on start (f ∷ fs) forward at o gs hs (w, before, way, inside, outside, rest) i here out x e =
       let dir = direction_of forward in
-      let leads = inside.free.leads at i inside.after inside.ahead here in
-      let (more, less) = through inside.singles inside.first inside.last f.continuation (told_by a) program (input_of v) dir hs at o x i leads e in
+      let (low, less, more) = stays-in (are_atomic (f ∷ fs)) inside.singles inside.look inside.first inside.last f.continuation inside.free dir hs at o i inside.after inside.ahead here x e in
       let (on, ls, beyond, same, level) = on-way flow h v all program suits may.pass dir (told_by a) Anywhere (right dir) (past dir) w at o gs way tt hs i here out x e in
-      let after = inside.after in
-      let still : IsInside program f.continuation x.at (marked dir i o gs) before = record {
+      let still : IsInside program (are_atomic (f ∷ fs)) f.continuation x.at (marked dir i o gs) before = record {
         look = inside.look;
         first = inside.first;
         last = inside.last;
         singles = inside.singles;
         free = inside.free;
-        after = omega (arith, after, more);
+        after = low;
         ahead = less;
-        kept = kept-on inside.singles inside.first inside.last f.continuation dir at o i gs before leads inside.kept;
+        kept = keeps-in (are_atomic (f ∷ fs)) inside.singles inside.look inside.first inside.last f.continuation inside.free dir at o i gs before inside.after inside.ahead here inside.kept;
       } in
       let outwards : GoesOutside h f forward x.at = λ away. ((outside away).0, same ∙ (outside away).1) in (
         (w, before, on, still, outwards, rest),
@@ -189,38 +220,46 @@ module _ (flow : Flow) (h : Heights) (v : View) (all : AreOfKind v.kind v.units)
             let same = ap (λ (b : Bool). if b then near continuation o else far h v fs f.continuation f.offset + (f.continuation - continuation)) e in
             omega (arith, less, some, same)
 
-    walk-into : (frames : List Frame) → Goes start frames forward at o gs → (singles : Bool) → AreLoopFree program singles at low high continuation → HaveRoom kind
+    walk-into : (frames : List Frame) → Goes start frames forward at o gs → (singles : Bool) → AreContents (are_atomic (new ∷ frames)) singles program at low high continuation → HaveRoom kind
         → outside_at h continuation ≡ outside_at h at → (kind ≡ atomic → outside_at h (suc at) ≡ continuation) → ((w : Whole) → Way forward w at o gs → Into w)
         → Goes start (new ∷ frames) (inside_forward kind forward) (suc at) o gs × (left (new ∷ frames) (suc at) o < left frames at o)
-    walk-into frames walks singles free ranks same leads-out into = by_frames frames walks
+    walk-into frames walks singles free ranks same leads-out into = by_frames frames refl walks
       where
-        inside-now : IsInside program continuation (suc at) gs gs
-        inside-now = record { look = at; first = low; last = high; singles = singles; free = free; after = omega arith; ahead = free.some; kept = (refl, λ k out. refl) }
+        some : suc at < continuation
+        some = contents-some (are_atomic (new ∷ frames)) singles at low high continuation free
+
+        inside-now : IsInside program (are_atomic (new ∷ frames)) continuation (suc at) gs gs
+        inside-now = record { look = at; first = low; last = high; singles = singles; free = free; after = omega arith; ahead = some; kept = (refl, λ k out. refl) }
 
         outside-new : (kind : Submatch) → (kind ≡ atomic → outside_at h (suc at) ≡ continuation)
             → GoesOutside h (frame continuation o forward (returns kind)) (inside_forward kind forward) (suc at)
         outside-new (lookaround negated backward) out away = absurd (cc away)
         outside-new atomic out away = (refl, out refl)
 
-        by_base : forward ≡ true → (w : Whole) → Way forward w at o gs → EndsIn program (input_of v) start (Some w)
-            → Goes start (new ∷ []) (inside_forward kind forward) (suc at) o gs × (left (new ∷ []) (suc at) o < left [] at o)
-        by_base is w way ends =
+        by_base : frames ≡ [] → forward ≡ true → (w : Whole) → Way forward w at o gs → EndsIn program (input_of v) start (Some w)
+            → Goes start (new ∷ frames) (inside_forward kind forward) (suc at) o gs × (left (new ∷ frames) (suc at) o < left frames at o)
+        by_base none is w way ends =
             let (t, inner, outer) = into w way in (
-              (t, gs, inner, inside-now, outside-new kind leads-out, (is, (w, subst (λ b. IsOnWay flow h program v (direction_of b) w continuation (offset_behind new t.offset) (mixed 0 low high t.groups gs)) is outer, ends))),
-              nearer-into kind ranks free.some [] tt,
+              (
+                t,
+                gs,
+                inner,
+                inside-now,
+                outside-new kind leads-out,
+                subst (λ fs. Goes start fs forward continuation (offset_behind new t.offset) (mixed 0 low high t.groups gs)) (sym none)
+                    (is, (w, subst (λ b. IsOnWay flow h program v (direction_of b) w continuation (offset_behind new t.offset) (mixed 0 low high t.groups gs)) is outer, ends)),
+              ),
+              subst (λ fs. left (new ∷ fs) (suc at) o < left fs at o) (sym none) (nearer-into kind ranks some [] tt),
             )
 
-        by_frames : (frames : List Frame) → Goes start frames forward at o gs
+        by_frame : (f : Frame) (fs : List Frame) → frames ≡ f ∷ fs → Goes start (f ∷ fs) forward at o gs
             → Goes start (new ∷ frames) (inside_forward kind forward) (suc at) o gs × (left (new ∷ frames) (suc at) o < left frames at o)
-        by_frames [] (is, (w, way, ends)) = by_base is w (subst (λ b. IsOnWay flow h program v (direction_of b) w at o gs) (sym is) way) ends
-        by_frames (f ∷ fs) (w, before, way, inside, outside, rest) =
+        by_frame f fs are (w, before, way, inside, outside, rest) =
             let (t, inner, outer) = into w way in
-            let leads = inside.free.leads at (code.submatch kind low high continuation) inside.after inside.ahead here in
-            let within = fits-inside inside.singles kind at low high continuation inside.first inside.last f.continuation leads in
-            let (less, from, to) = within in
-            let some = free.some in
+            let (less, low', high') =
+            fits-in (are_atomic (f ∷ fs)) inside.singles inside.look inside.first inside.last f.continuation inside.free at kind low high continuation inside.after inside.ahead here in
             let after = inside.after in
-            let still : IsInside program f.continuation continuation (mixed 0 low high t.groups gs) before = record {
+            let still : IsInside program (are_atomic (f ∷ fs)) f.continuation continuation (mixed 0 low high t.groups gs) before = record {
               look = inside.look;
               first = inside.first;
               last = inside.last;
@@ -230,13 +269,25 @@ module _ (flow : Flow) (h : Heights) (v : View) (all : AreOfKind v.kind v.units)
               ahead = less;
               kept = (
                 mixed-length low high 0 t.groups gs ∙ inside.kept.0,
-                λ k out. mixed-outside low high 0 k t.groups gs (λ x y. out (omega (arith, x, from)) (omega (arith, y, to))) ∙ inside.kept.1 k out,
+                λ k out. mixed-outside low high 0 k t.groups gs (λ x y. out (omega (arith, x, low')) (omega (arith, y, high'))) ∙ inside.kept.1 k out,
               );
             } in
             let outwards : GoesOutside h f forward continuation = λ away. ((outside away).0, same ∙ (outside away).1) in (
-              (t, gs, inner, inside-now, outside-new kind leads-out, (w, before, outer, still, outwards, rest)),
-              nearer-into kind ranks free.some (f ∷ fs) less,
+              (
+                t,
+                gs,
+                inner,
+                inside-now,
+                outside-new kind leads-out,
+                subst (λ fs. Goes start fs forward continuation (offset_behind new t.offset) (mixed 0 low high t.groups gs)) (sym are) (w, before, outer, still, outwards, rest),
+              ),
+              subst (λ gs. left (new ∷ gs) (suc at) o < left gs at o) (sym are) (nearer-into kind ranks some (f ∷ fs) less),
             )
+
+        by_frames : (fs : List Frame) → frames ≡ fs → Goes start fs forward at o gs
+            → Goes start (new ∷ frames) (inside_forward kind forward) (suc at) o gs × (left (new ∷ frames) (suc at) o < left frames at o)
+        by_frames [] none (is, (w, way, ends)) = by_base none is w (subst (λ b. IsOnWay flow h program v (direction_of b) w at o gs) (sym is) way) ends
+        by_frames (f ∷ fs) are goes = by_frame f fs are goes
 
   -- Where contents end the walk goes on behind them, and comes nearer.
   walk-out : (start : ℕ) (f : Frame) (fs : List Frame) (forward : Bool) (at o : ℕ) (gs : List Marks) → Goes start (f ∷ fs) forward at o gs → Stands program at code.goal
@@ -275,6 +326,28 @@ module _ (flow : Flow) (h : Heights) (v : View) (all : AreOfKind v.kind v.units)
           let e = ap (rank_at h) out in
           omega (arith, same, lower, e)
 
+  -- The contents of an atomic group have no loops where they are those of a lookaround too.
+  atomic-contents : (start : ℕ) (frames : List Frame) (forward : Bool) (at o : ℕ) (gs : List Marks) → Goes start frames forward at o gs → (low high continuation : ℕ)
+      → Stands program at (code.submatch atomic low high continuation) → (singles : Bool) × AreContents (are_atomic frames) singles program at low high continuation
+  atomic-contents start [] forward at o gs walks low high continuation here = (false, may.pass.leaves at low high continuation atomic here)
+  atomic-contents start (f ∷ fs) forward at o gs (w, before, way, inside, outside, rest) low high continuation here =
+      (inside.singles, by_kind (are_atomic (f ∷ fs)) inside.free)
+    where
+      closed : StayInside program at low high continuation
+      closed = may.pass.leaves at low high continuation atomic here
+
+      by_kind : (b : Bool) → AreContents b inside.singles program inside.look inside.first inside.last f.continuation → AreContents b inside.singles program at low high continuation
+      by_kind true free = closed
+      by_kind false free =
+          let less = (fits-in false inside.singles inside.look inside.first inside.last f.continuation free at atomic low high continuation inside.after inside.ahead here).0 in
+          record {
+            some = closed.some;
+            leads = λ b i after ahead there.
+                let before = inside.after in
+                through-of inside.singles inside.first inside.last f.continuation low high at continuation b i
+                (free.leads b i (omega (arith, before, after)) (omega (arith, ahead, less)) there) (closed.stays b i after ahead there);
+          }
+
   -- So it goes on until it has come to its end.
   pub walk-goes : (start : ℕ) (frames : List Frame) (forward : Bool) (at o : ℕ) (gs hs : List Marks) → Goes start frames forward at o gs → (i : Instruction) → Stands program at i → (y : Walk)
       → goes i (led (told_by a) program (input_of v) (direction_of forward) hs i at o) (record { at = at; offset = o; forward = forward; frames = frames }) ≡ Some y
@@ -306,7 +379,8 @@ module _ (flow : Flow) (h : Heights) (v : View) (all : AreOfKind v.kind v.units)
       into (code.submatch (lookaround true backward) low high continuation) there is = absurd (cc is)
       into (code.submatch atomic low high continuation) there is =
           let (lower, inner) = ranked-there atomic low high continuation there in
-          walk-into start forward at o gs atomic low high continuation there frames walks false (may.pass.leaves at low high continuation atomic there) (atomic-lower (ranking_of h) at continuation inner)
+          let (singles, contents) = atomic-contents start frames forward at o gs walks low high continuation there in
+          walk-into start forward at o gs atomic low high continuation there frames walks singles contents (atomic-lower (ranking_of h) at continuation inner)
           lower.same inner.outside (λ w way.
           let (t, inner, outer, anywhere) = atomic-into flow h v all program suits may.pass dir (told_by a) Anywhere (right dir) (past dir) w at o gs way tt gs low high continuation there in
           (t, inner, outer))

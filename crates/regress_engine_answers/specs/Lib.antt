@@ -2,3 +2,4 @@ pub mod AnswerTables
 pub mod Filled
 pub mod Walked
 pub mod Searched
+pub mod Ended

@@ -13,7 +13,7 @@ use Rattle.regress_engine_memory.specs.Flow.{Flow}
 use Rattle.regress_engine_linear.specs.RankTables.{Heights, forward_at, outside_at, rank_at}
 use Rattle.regress_engine_linear.specs.Answered.{one_at}
 use Rattle.regress_engine_answers.specs.AnswerTables.{exits_by, told_by}
-use Rattle.regress_engine_linear.specs.Linear.{AreLoopFree}
+use Rattle.regress_engine_linear.specs.Linear.{AreLoopFree, StayInside}
 use Rattle.regress_engine_ways.specs.Ways.{AreKept, IsOnWay, MayPass, is_entered}
 use Rattle.regress_engine_answers.specs.Filled.{AreRight, IsExitRight}
 use Rattle.regress_engine_answers.specs.declared.answers.Answers.{Answers}
@@ -85,17 +85,26 @@ pub record MayWalk (flow : Flow) (h : Heights) (program : Program) (v : View) (a
   pub right : AreRight flow h program v a
   pub exits : AreExitsKnown flow h program v a
 
--- An address lies in contents without loops, or with some of one character, behind which it goes on at another, and the groups outside are as
--- they were before them.
-pub record IsInside (program : Program) (continuation at : ℕ) (groups before : List Marks) : Type 0 where
+-- Outside of lookarounds no way leads out of contents but from their end; inside of one they have no loops, or some of one character.
+abbrev pub AreContents : (atomics singles : Bool) → Program → (look first last continuation : ℕ) → Type 0
+AreContents true singles program look first last continuation = StayInside program look first last continuation
+AreContents false singles program look first last continuation = AreLoopFree program singles look first last continuation
+
+-- An address lies in contents, behind which it goes on at another, and the groups outside are as they were before them.
+pub record IsInside (program : Program) (atomics : Bool) (continuation at : ℕ) (groups before : List Marks) : Type 0 where
   pub look : ℕ
   pub first : ℕ
   pub last : ℕ
   pub singles : Bool
-  pub free : AreLoopFree program singles look first last continuation
+  pub free : AreContents atomics singles program look first last continuation
   pub after : look < at
   pub ahead : at < continuation
   pub kept : AreKept first last groups before
+
+-- no contents of a lookaround are gone through
+abbrev pub are_atomic : List Frame → Bool
+are_atomic [] = true
+are_atomic (f ∷ fs) = not f.returns && are_atomic fs
 
 -- Contents of an atomic group are read as what is around them, and outside of it it goes on behind them.
 abbrev pub GoesOutside : Heights → Frame → (forward : Bool) → (at : ℕ) → Type 0
@@ -110,13 +119,8 @@ module _ (flow : Flow) (h : Heights) (program : Program) (v : View) where
       (forward ≡ true) × ((answer : Whole) × IsOnWay flow h program v Forward answer at o groups × EndsIn program (input_of v) start (Some answer))
   Walks start (f ∷ fs) forward at o groups =
       (answer : Whole) × (before : List Marks) × IsOnWay flow h program v (direction_of forward) answer at o groups
-      × (x : IsInside program f.continuation at groups before) × GoesOutside h f forward at
+      × (x : IsInside program (are_atomic (f ∷ fs)) f.continuation at groups before) × GoesOutside h f forward at
       × Walks start fs f.forward f.continuation (offset_behind f answer.offset) (mixed 0 x.first x.last answer.groups before)
-
--- no contents of a lookaround are gone through
-abbrev pub are_atomic : List Frame → Bool
-are_atomic [] = true
-are_atomic (f ∷ fs) = not f.returns && are_atomic fs
 
 module _ (h : Heights) (v : View) where
   -- so many addresses for each offset up to the end of the text, and the ranks below

@@ -1,5 +1,5 @@
 //! Whether runs from the addresses of a program and the offsets of a text have an answer.
-ghost use Rattle.std.specs.Prelude.{◌≡◌, ◌+◌, ◌^◌, ◌<◌, ◌≤◌, ◌&&◌, ◌||◌, ◌==◌, ℕ, Bool, [], false, true, None, IfSome, OnErr, OnOk, if◌then◌else◌, length, map, slice_get};
+ghost use Rattle.std.specs.Prelude.{◌≡◌, ◌+◌, ◌^◌, ◌<◌, ◌≤◌, ◌&&◌, ◌||◌, ◌==◌, ℕ, Bool, [], false, true, None, IfSome, OnErr, OnOk, if◌then◌else◌, length, slice_get};
 ghost use Rattle.regress_engine_code.specs.Standing.{program_of};
 ghost use Rattle.regress_engine_input.specs.Views.{direction_of, input_of, reading_of};
 ghost use Rattle.regress_engine_insn.specs.InsnViews.{instruction};
@@ -7,22 +7,19 @@ ghost use Rattle.regress_engine_insn.specs.Instructions.{Instruction, Stands};
 ghost use Rattle.regress_engine_runs.specs.Meets.{IsAtPlace, reads_character, referred};
 ghost use Rattle.regress_engine_runs.specs.Runs.{advance, after_times, counted, fields_of, one_by_one};
 ghost use Rattle.regress_engine_search.specs.Search.{Suits};
-ghost use Rattle.regress_engine_search.specs.StateViews.{marks_of};
 ghost use Rattle.regress_engine_linear.specs.Answered.{again, behind, exits_at, exits_value_at, is_single, one_at, one_beyond, AreExitsOf, AreExitsRight, IsRepeated};
-ghost use Rattle.regress_engine_answers.specs.AnswerTables.{exits_by, in_set, told_by};
-ghost use Rattle.regress_engine_answers.specs.Filled.{IsPlaced};
+ghost use Rattle.regress_engine_answers.specs.AnswerTables.{ends_by, exits_by, in_set, told_by};
 ghost use Rattle.regress_engine_answers.specs.Searched.{IsReadyIn};
-ghost use Rattle.regress_engine_ways.specs.Ways.{value_at};
-ghost use Rattle.regress_engine_linear.specs.LinearViews.{heights_in};
+ghost use Rattle.regress_engine_ways.specs.Ways.{told_if, value_at};
 
+use crate::rows::Rows;
 use regress_engine_advance::{advance, after_times};
 use regress_engine_code::CompiledRegex;
 use regress_engine_insn::Insn;
-use regress_engine_linear::LinearTable;
 use regress_engine_memory::Bits;
 use regress_engine_search::{ExecutorInput, Shown};
 use regress_front_core::GroupData;
-use std::alloc::AllocError;
+use std::alloc::{AllocError, Global};
 
 /// Adds a number to one of some sets, if that is asked. It errs where memory is refused, and then the sets stay as they are.
 fn insert_if(sets: &mut Vec<Bits>, has: bool, k: usize, number: usize) -> Result<(), AllocError>
@@ -44,6 +41,10 @@ pub struct Answers {
     pub(crate) offsets: Vec<Bits>,
     /// Of each address of a one-character loop those from which one of its exits has behind at least one more character.
     pub(crate) exits: Vec<Bits>,
+    /// Of each address inside of an atomic group where runs from each offset end.
+    pub(crate) ends: Rows,
+    /// Of each address of a one-character loop inside of one where runs from its exits behind at least one more character end.
+    pub(crate) exit_ends: Rows,
 }
 
 impl Answers {
@@ -57,6 +58,22 @@ impl Answers {
         ensures { result ≡ told_by self.now at offset }
     {
         at < self.offsets.len() && self.offsets[at].contains(offset)
+    }
+
+    /// Forgets where runs end, which is not asked once the table is full.
+    pub(crate) fn forget_ends(&mut self, alloc: Global)
+        ensures offsets { self.new.offsets ≡ self.old.offsets }
+        ensures exits { self.new.exits ≡ self.old.exits }
+    {
+        self.ends = Rows::none(alloc);
+        self.exit_ends = Rows::none(alloc);
+    }
+
+    /// Where it is kept that runs from an address and an offset end.
+    pub(crate) fn end(&self, at: usize, offset: usize) -> Option<usize>
+        ensures { result ≡ ends_by self.now at offset }
+    {
+        self.ends.kept(at, offset)
     }
 
     /// Whether it is told that one of the exits of the one-character loop at an address has an answer, behind at least one more character
@@ -74,6 +91,16 @@ impl Answers {
     {
         match next {
             Some(offset) => self.are_told(at + 1, offset),
+            None => false,
+        }
+    }
+
+    /// Whether runs have an answer at an address, at an offset, if there is one.
+    fn are_told_at(&self, at: usize, end: Option<usize>) -> bool
+        ensures { result ≡ told_if (told_by self.now) at end }
+    {
+        match end {
+            Some(offset) => self.are_told(at, offset),
             None => false,
         }
     }
@@ -145,7 +172,6 @@ impl<'a, Input: ExecutorInput> Answering<'a, Input> {
     /// instruction is no one-character loop.
     pub(crate) fn answer(
         &self,
-        table: &LinearTable,
         answers: &Answers,
         insn: &Insn,
         forward: bool,
@@ -156,18 +182,15 @@ impl<'a, Input: ExecutorInput> Answering<'a, Input> {
         requires ready { IsReadyIn Input.view self.now (instruction insn.now) offset }
         requires room { at + 1 < 2 ^ 64 }
         requires plain { is_single (instruction insn.now) ≡ false }
-        requires groups { length self.now.groups.now ≡ (program_of self.now.program.now).groups }
-        requires calm { (b : ℕ) → (i : Instruction) → Stands (program_of self.now.program.now) b i → referred i ≡ None }
         requires unreferring { referred (instruction insn.now) ≡ None }
-        requires placed { IsPlaced (program_of self.now.program.now) (Input.view self.now.input) answers.now }
-        ensures { result ≡ value_at (heights_in table.now) (told_by answers.now) (program_of self.now.program.now) (input_of (Input.view self.now.input)) (direction_of forward)
-            (map marks_of self.now.groups.now) (instruction insn.now) at offset }
+        ensures { result ≡ value_at (told_by answers.now) (ends_by answers.now) (program_of self.now.program.now) (input_of (Input.view self.now.input))
+            (direction_of forward) (instruction insn.now) at offset }
     {
         match insn {
             Insn::Goal => true,
             Insn::JustFail | Insn::Loop1CharBody { .. } => false,
             Insn::Atomic { continuation, .. } => {
-                self.atomic_answer(table, answers, *continuation as usize, forward, at, offset)
+                answers.are_told_at(*continuation as usize, answers.end(at + 1, offset))
             }
             Insn::Lookahead {
                 negate,
@@ -213,7 +236,6 @@ impl<'a, Input: ExecutorInput> Answering<'a, Input> {
     /// tells it. It errs where memory is refused, and then no more is told.
     pub(crate) fn work_out(
         &self,
-        table: &LinearTable,
         answers: &mut Answers,
         insn: &Insn,
         forward: bool,
@@ -225,17 +247,16 @@ impl<'a, Input: ExecutorInput> Answering<'a, Input> {
         requires room { at + 1 < 2 ^ 64 }
         requires within { at < length answers.old.offsets.items }
         requires plain { is_single (instruction insn.now) ≡ false }
-        requires groups { length self.now.groups.now ≡ (program_of self.now.program.now).groups }
-        requires calm { (b : ℕ) → (i : Instruction) → Stands (program_of self.now.program.now) b i → referred i ≡ None }
         requires unreferring { referred (instruction insn.now) ≡ None }
-        requires placed { IsPlaced (program_of self.now.program.now) (Input.view self.now.input) answers.old }
         ensures count { length answers.new.offsets.items ≡ length answers.old.offsets.items }
         ensures exits { answers.new.exits ≡ answers.old.exits }
+        ensures ends { answers.new.ends ≡ answers.old.ends }
+        ensures exit_ends { answers.new.exit_ends ≡ answers.old.exit_ends }
         ensures told { OnOk result ((a o : ℕ) → told_by answers.new a o ≡ (told_by answers.old a o || (((a == at) && (offset == o))
-            && value_at (heights_in table.now) (told_by answers.old) (program_of self.now.program.now) (input_of (Input.view self.now.input)) (direction_of forward)
-            (map marks_of self.now.groups.now) (instruction insn.now) at offset))) }
+            && value_at (told_by answers.old) (ends_by answers.old) (program_of self.now.program.now) (input_of (Input.view self.now.input))
+            (direction_of forward) (instruction insn.now) at offset))) }
     {
-        let has = self.answer(table, answers, insn, forward, at, offset);
+        let has = self.answer(answers, insn, forward, at, offset);
         insert_if(&mut answers.offsets, has, at, offset)
     }
 
@@ -247,7 +268,7 @@ impl<'a, Input: ExecutorInput> Answering<'a, Input> {
     }
 
     /// The offset behind one more character that a one-character loop repeats, where there is one.
-    fn next(&self, body: &Insn, forward: bool, offset: usize) -> Option<usize>
+    pub(crate) fn next(&self, body: &Insn, forward: bool, offset: usize) -> Option<usize>
         requires suits { Suits (program_of self.now.program.now) (Input.view self.now.input) }
         requires groups { length self.now.groups.now ≡ (program_of self.now.program.now).groups }
         requires repeated { (at : ℕ) × IsRepeated (program_of self.now.program.now) at (instruction body.now) }
@@ -267,7 +288,13 @@ impl<'a, Input: ExecutorInput> Answering<'a, Input> {
     }
 
     /// The offset behind so many more, where there are so many.
-    fn after(&self, body: &Insn, times: usize, forward: bool, offset: usize) -> Option<usize>
+    pub(crate) fn after(
+        &self,
+        body: &Insn,
+        times: usize,
+        forward: bool,
+        offset: usize,
+    ) -> Option<usize>
         requires suits { Suits (program_of self.now.program.now) (Input.view self.now.input) }
         requires groups { length self.now.groups.now ≡ (program_of self.now.program.now).groups }
         requires repeated { (at : ℕ) × IsRepeated (program_of self.now.program.now) at (instruction body.now) }
@@ -380,6 +407,8 @@ impl<'a, Input: ExecutorInput> Answering<'a, Input> {
             (direction_of forward) at offset (instruction body.now) }
         ensures count { length answers.new.offsets.items ≡ length answers.old.offsets.items }
         ensures count_exits { length answers.new.exits.items ≡ length answers.old.exits.items }
+        ensures ends { answers.new.ends ≡ answers.old.ends }
+        ensures exit_ends { answers.new.exit_ends ≡ answers.old.exit_ends }
         ensures exits { OnOk result ((a o : ℕ) → exits_by answers.new a o ≡ (exits_by answers.old a o || (((a == at) && (offset == o))
             && exits_at (told_by answers.old) (exits_by answers.old at) at (advance (program_of self.now.program.now) (input_of (Input.view self.now.input))
             (instruction body.now) (direction_of forward) [] offset)))) }
@@ -398,7 +427,6 @@ impl<'a, Input: ExecutorInput> Answering<'a, Input> {
     /// at each place further on. It errs where memory is refused.
     pub(crate) fn work_at(
         &self,
-        table: &LinearTable,
         answers: &mut Answers,
         forward: bool,
         at: usize,
@@ -412,14 +440,15 @@ impl<'a, Input: ExecutorInput> Answering<'a, Input> {
         requires count { length answers.old.offsets.items ≡ length (program_of self.now.program.now).instructions }
         requires count_exits { length answers.old.exits.items ≡ length (program_of self.now.program.now).instructions }
         requires calm { (b : ℕ) → (i : Instruction) → Stands (program_of self.now.program.now) b i → referred i ≡ None }
-        requires placed { IsPlaced (program_of self.now.program.now) (Input.view self.now.input) answers.old }
         requires exits { AreExitsRight (told_by answers.old) (exits_by answers.old) (program_of self.now.program.now) (Input.view self.now.input)
             (direction_of forward) at offset }
         ensures count { length answers.new.offsets.items ≡ length answers.old.offsets.items }
         ensures count_exits { length answers.new.exits.items ≡ length answers.old.exits.items }
+        ensures ends { answers.new.ends ≡ answers.old.ends }
+        ensures exit_ends { answers.new.exit_ends ≡ answers.old.exit_ends }
         ensures told { OnOk result ((i : Instruction) → Stands (program_of self.now.program.now) at i → (a o : ℕ) → told_by answers.new a o
-            ≡ (told_by answers.old a o || (((a == at) && (offset == o)) && value_at (heights_in table.now) (told_by answers.old) (program_of self.now.program.now)
-            (input_of (Input.view self.now.input)) (direction_of forward) (map marks_of self.now.groups.now) i at offset))) }
+            ≡ (told_by answers.old a o || (((a == at) && (offset == o)) && value_at (told_by answers.old) (ends_by answers.old) (program_of self.now.program.now)
+            (input_of (Input.view self.now.input)) (direction_of forward) i at offset))) }
         ensures exits { OnOk result ((i : Instruction) → Stands (program_of self.now.program.now) at i → (a o : ℕ) → exits_by answers.new a o
             ≡ (exits_by answers.old a o || (((a == at) && (offset == o)) && exits_value_at (told_by answers.old) (exits_by answers.old) (program_of self.now.program.now)
             (input_of (Input.view self.now.input)) (direction_of forward) i at offset))) }
@@ -434,7 +463,7 @@ impl<'a, Input: ExecutorInput> Answering<'a, Input> {
                 let body = self.instruction(at + 1);
                 self.work_out_single(answers, body, *min_iters, *max_iters, forward, at, offset)
             }
-            _ => self.work_out(table, answers, insn, forward, at, offset),
+            _ => self.work_out(answers, insn, forward, at, offset),
         }
     }
 }

@@ -15,6 +15,7 @@ ghost use Rattle.regress_engine_linear.specs.Linear.{IsLinear, too_long};
 ghost use Rattle.regress_engine_linear.specs.LinearViews.{flow_in, heights_in};
 
 use crate::answers::{Answering, Answers};
+use crate::rows::Rows;
 use regress_engine_advance::beside;
 use regress_engine_insn::Insn;
 use regress_engine_linear::{Level, LinearTable};
@@ -63,12 +64,16 @@ impl Answers {
     fn empty(alloc: Global, count: usize) -> Result<Answers, AllocError>
         ensures offsets { IfOk result (λ answers. length answers.offsets.items ≡ count) }
         ensures exits { IfOk result (λ answers. length answers.exits.items ≡ count) }
+        ensures ends { IfOk result (λ answers. length answers.ends.rows.items ≡ count) }
+        ensures exit_ends { IfOk result (λ answers. length answers.exit_ends.rows.items ≡ count) }
         ensures none { IfOk result (λ answers. (at o : ℕ) → told_by answers at o ≡ false) }
         ensures none_behind { IfOk result (λ answers. (at o : ℕ) → exits_by answers at o ≡ false) }
     {
         Ok(Answers {
             offsets: empty_sets(alloc, count)?,
             exits: empty_sets(alloc, count)?,
+            ends: Rows::empty(alloc, count)?,
+            exit_ends: Rows::empty(alloc, count)?,
         })
     }
 }
@@ -104,7 +109,11 @@ impl<'a, Input: ExecutorInput> Answering<'a, Input> {
         if !is_place && reads_character(self.instruction(at)) {
             return Ok(());
         }
-        self.work_at(table, answers, level.forward, at, offset)
+        self.work_at(answers, level.forward, at, offset)?;
+        if table.is_inside(at) {
+            self.keep_end(answers, level.forward, at, offset)?;
+        }
+        Ok(())
     }
 
     /// Works out all addresses of a level at an offset, the lowest rank first. It counts a step for each.
@@ -239,6 +248,7 @@ impl<'a, Input: ExecutorInput> Answering<'a, Input> {
             self.fill_level(table, &mut answers, level, steps)?;
             from = level.to;
         }
+        answers.forget_ends(alloc);
         Ok(answers)
     }
 }

@@ -2,9 +2,10 @@
 #![tactic(auto)]
 
 mod answers;
-mod contents;
+mod ends;
 mod filling;
 mod places;
+mod rows;
 mod searching;
 mod walker;
 mod walking;

@@ -18,12 +18,22 @@ use regress_front_core::GroupData;
 use std::alloc::{AllocError, Global};
 
 /// A table that tells of a linear program and a text from where runs have answers: of each address and each offset.
-#[derive(Debug, Drop)]
+#[derive(Debug)]
 pub struct TextTable {
     /// What it tells.
     pub(crate) answers: Answers,
     /// As many groups as the program has, none of which took anything.
     pub(crate) blank: Vec<GroupData<usize>>,
+}
+
+// By hand, so that a caller's proof passes over one call where a table goes out of scope, and not over each of its rows.
+impl Drop for TextTable {
+    fn drop(self) {
+        let TextTable {
+            answers: _,
+            blank: _,
+        } = self;
+    }
 }
 
 /// As many groups, none of which took anything. It errs where memory is refused.

@@ -24,7 +24,7 @@ use Rattle.regress_engine_search.specs.Search.{IsSearchable}
 use Rattle.regress_engine_memory.specs.Flow.{Flow, Hands, Writes, IsToldOf, BeginsAnew, Flows}
 use Rattle.regress_engine_linear.specs.Ranks.{Ranking, Lowers, Inside, IsCycle, Ranks, asked_less}
 use Rattle.regress_engine_linear.specs.RankTables.{ArePlaced, Heights, IsBefore, address_at, level_at, ranking_of}
-use Rattle.regress_engine_linear.specs.Linear.{AreLoopFree, IsLinear, IsUnboundedOrOnce, LeavesGroups, AreFew, few, is_visited_once, leads_through, too_long}
+use Rattle.regress_engine_linear.specs.Linear.{AreFew, AreLoopFree, IsLinear, IsUnboundedOrOnce, LeavesGroups, StayInside, few, is_visited_once, leads_through, stays_inside, too_long}
 use Rattle.regress_engine_linear.specs.LinearViews.{flow_in, heights_in}
 use Rattle.regress_engine_linear.specs.Answered.{Ends}
 use Rattle.regress_engine_linear.specs.declared.testing.LinearTable.{LinearTable}
@@ -243,12 +243,18 @@ free-anyway program singles at first last continuation t = record {
   leads = λ b i after ahead here. ∥∥₁_elim t (bool-set (leads_through singles first last continuation b i) true) (λ x. x.leads b i after ahead here);
 }
 
+stay-anyway : (program : Program) (at first last continuation : ℕ) → ∥ StayInside program at first last continuation ∥₁ → StayInside program at first last continuation
+stay-anyway program at first last continuation t = record {
+  some = ∥∥₁_elim t le_prop (λ x. x.some);
+  stays = λ b i after ahead here. ∥∥₁_elim t (bool-set (stays_inside first last at continuation b i) true) (λ x. x.stays b i after ahead here);
+}
+
 leaves-anyway : (h : Heights) (program : Program) (at : ℕ) (kind : Submatch) (first last continuation : ℕ) → ∥ LeavesGroups h program at kind first last continuation ∥₁
     → LeavesGroups h program at kind first last continuation
 leaves-anyway h program at (lookaround true backward) first last continuation t = tt
 leaves-anyway h program at (lookaround false backward) first last continuation t =
     λ some. (free-anyway program (is_visited_once program at) at first last continuation (∥∥₁_map t (λ x. (x some).0)), ∥∥₁_elim t le_prop (λ x. (x some).1))
-leaves-anyway h program at atomic first last continuation t = free-anyway program false at first last continuation t
+leaves-anyway h program at atomic first last continuation t = stay-anyway program at first last continuation t
 
 -- one of two addresses is worked out before the other
 before-anyway : (h : Heights) (a b : ℕ) → ∥ IsBefore h a b ∥₁ → IsBefore h a b

@@ -15,9 +15,14 @@ use Rattle.regress_engine_exec.specs.declared.tables.Tables.{Tables}
 abbrev pub most_told : ℕ
 most_told = 2 ^ 29
 
--- the table of a text of so many units takes no more: a bit for each address at each offset
+-- so many offsets at most are kept while the table of a text is made
+abbrev pub most_kept : ℕ
+most_kept = 2 ^ 22
+
+-- the table of a text of so many units takes no more: a bit for each address at each offset; nor does what is kept meanwhile, an offset for each
+-- address inside of an atomic group at each offset
 abbrev pub fits_told : LinearTable → (units : ℕ) → Bool
-fits_told table units = nat_lt units most_told && nat_le (length (heights_in table).order * suc units) most_told
+fits_told table units = nat_lt units most_told && (nat_le (length (heights_in table).order * suc units) most_told && nat_le (table.inside * suc units) most_kept)
 
 -- So many steps are enough for all searches for the matches in a text of so many units, where its table fits: four for each address of the
 -- program, at each offset of the text and at 64 more.

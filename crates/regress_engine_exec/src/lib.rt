@@ -18,4 +18,4 @@ pub use regress_engine_attempt::MOST_REMEMBERED;
 pub use regress_engine_search::{ExecutorInput, Shown};
 pub use scratch::Scratch;
 pub use search::{BacktrackExecutor, Backtracker, BoundedExecutor};
-pub use turning::{LINEAR_STEPS, MOST_TOLD, linear_steps};
+pub use turning::{LINEAR_STEPS, MOST_KEPT, MOST_TOLD, linear_steps};

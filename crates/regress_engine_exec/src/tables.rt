@@ -79,15 +79,14 @@ impl Tables {
     }
 }
 
-/// Whether something is repeated inside of a lookaround, whose contents may then be run again and again at length. A program in which
-/// something is repeated inside of an atomic group is not linear.
+/// Whether something is repeated inside of a lookaround or an atomic group, whose contents may then be run again and again at length.
 fn repeats_inside(insns: &[Insn]) -> bool {
     let mut end = 0;
     for at in 0..insns.len() {
         match &insns[at] {
-            Insn::Lookahead { continuation, .. } | Insn::Lookbehind { continuation, .. } => {
-                end = end.max(*continuation as usize)
-            }
+            Insn::Lookahead { continuation, .. }
+            | Insn::Lookbehind { continuation, .. }
+            | Insn::Atomic { continuation, .. } => end = end.max(*continuation as usize),
             Insn::EnterLoop(_) | Insn::Loop1CharBody { .. } if at < end => return true,
             _ => {}
         }
@@ -96,8 +95,8 @@ fn repeats_inside(insns: &[Insn]) -> bool {
 }
 
 /// How many steps the searches in a text are counted before there are tables: as many as are enough for a linear program, if its tables may
-/// fit and something is repeated inside of a lookaround. Without that what is remembered of failures is enough, so that
-/// there is no need to count.
+/// fit and something is repeated inside of a lookaround or an atomic group. Without that what is remembered of failures is
+/// enough, so that there is no need to count.
 pub(crate) fn patience<Input: ExecutorInput>(context: &SearchContext<'_, Input>) -> StepsLeft {
     let program = context.program;
     if !program.has_submatches() || !repeats_inside(program.insns()) {

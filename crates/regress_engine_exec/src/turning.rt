@@ -18,15 +18,22 @@ use std::alloc::{AllocError, Global};
 /// What is told of the offsets of a text takes at most so many bits: 64 MB.
 pub const MOST_TOLD: usize = 1 << 29;
 
+/// While that is made where runs end is kept for each address inside of an atomic group at each offset: so many at most, of 16 bytes each, and
+/// as many for the exits of one-character loops.
+pub const MOST_KEPT: usize = 1 << 22;
+
 /// So many steps for each address of a program, at each offset of a text and at 64 more, are enough for all searches for the matches of a
 /// linear program.
 pub const LINEAR_STEPS: usize = 4;
 
-/// Whether what is told of a text of so many units takes no more: a bit for each address of a program at each offset.
+/// Whether what is told of a text of so many units takes no more, a bit for each address of a program at each offset, and what is kept meanwhile
+/// does not.
 pub(crate) fn fits_told(table: &LinearTable, units: usize) -> bool
     ensures { result ≡ fits_told table.now units }
 {
-    units < MOST_TOLD && table.count().saturating_mul(units + 1) <= MOST_TOLD
+    units < MOST_TOLD
+        && (table.count().saturating_mul(units + 1) <= MOST_TOLD
+            && table.inside().saturating_mul(units + 1) <= MOST_KEPT)
 }
 
 /// How many steps are enough for all searches for the matches of a linear program in a text of so many units: an executor with so many or

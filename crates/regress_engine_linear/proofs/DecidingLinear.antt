@@ -11,8 +11,8 @@ use Rattle.regress_engine_memory.specs.Deciding.{Table, calm_at, flow_of, is_flo
 use Rattle.regress_engine_memory.specs.Passing.{all_pass}
 use Rattle.regress_engine_memory.proofs.Deciding.{decides}
 use Rattle.regress_engine_memory.proofs.TableLemmas.{each-passes}
-use Rattle.regress_engine_linear.specs.Linear.{AreFew, AreLoopFree, IsLinear, LeavesGroups, few, is_visited_once, leads_through, too_long}
-use Rattle.regress_engine_linear.specs.LinearTests.{are_loop_free, have_ranks, fits_at, is_fit, is_unbounded, leads_inside, leaves_groups, may_stand}
+use Rattle.regress_engine_linear.specs.Linear.{AreFew, AreLoopFree, IsLinear, LeavesGroups, StayInside, few, is_visited_once, too_long}
+use Rattle.regress_engine_linear.specs.LinearTests.{are_allowed, have_ranks, fits_at, is_allowed, is_allowed_inside, is_fit, is_unbounded, leaves_groups, may_stand}
 use Rattle.regress_engine_linear.specs.RankTables.{Heights, ArePlaced, are_ranked, forward_at, rank_at}
 use Rattle.regress_engine_linear.proofs.Ranking.{ranks-decide}
 
@@ -52,16 +52,17 @@ module _ (t : Table) (h : Heights) (program : Program) (flows : is_flow t progra
     | inr is ↦ inr (eqb-true most 1 is)
   ]
 
-  loop-free : (singles : Bool) (at first last end : ℕ) → are_loop_free program singles at first last end ≡ true → AreLoopFree program singles at first last end
-  loop-free singles at first last end e =
-      let a = and_parts (nat_lt (suc at) end) (all_pass (leads_inside singles at first last end) 0 program.instructions) e in
-      record {
-        some = ltb-true (suc at) end a.0;
-        leads = λ k i after ahead here. inside k i after ahead (each-passes (leads_inside singles at first last end) program a.1 k i here);
-      }
+  allowed : (loops singles : Bool) (at first last end : ℕ) → are_allowed program loops singles at first last end ≡ true
+      → (suc at < end) × ((b : ℕ) (i : Instruction) → at < b → b < end → Stands program b i → is_allowed loops singles at first last end b i ≡ true)
+  allowed loops singles at first last end e =
+      let a = and_parts (nat_lt (suc at) end) (all_pass (is_allowed_inside loops singles at first last end) 0 program.instructions) e in (
+        ltb-true (suc at) end a.0,
+        λ k i after ahead here. inside k i after ahead (each-passes (is_allowed_inside loops singles at first last end) program a.1 k i here),
+      )
     where
-      inside : (k : ℕ) (i : Instruction) → at < k → k < end → ((nat_le k at || nat_le end k) || leads_through singles first last end k i) ≡ true → leads_through singles first last end k i ≡ true
-      inside k i after ahead passes = elim (or_cases (nat_le k at || nat_le end k) (leads_through singles first last end k i) passes) [
+      inside : (k : ℕ) (i : Instruction) → at < k → k < end → ((nat_le k at || nat_le end k) || is_allowed loops singles at first last end k i) ≡ true
+          → is_allowed loops singles at first last end k i ≡ true
+      inside k i after ahead passes = elim (or_cases (nat_le k at || nat_le end k) (is_allowed loops singles at first last end k i) passes) [
         | inl out ↦ elim (or_cases (nat_le k at) (nat_le end k) out) [
           | inl low ↦ let x = leb-true k at low in absurd (omega (arith, x, after))
           | inr high ↦ let x = leb-true end k high in absurd (omega (arith, x, ahead))
@@ -69,15 +70,21 @@ module _ (t : Table) (h : Heights) (program : Program) (flows : is_flow t progra
         | inr is ↦ is
       ]
 
+  loop-free : (singles : Bool) (at first last end : ℕ) → are_allowed program false singles at first last end ≡ true → AreLoopFree program singles at first last end
+  loop-free singles at first last end e = let (some, leads) = allowed false singles at first last end e in record { some = some; leads = leads }
+
+  stay : (at first last end : ℕ) → are_allowed program true false at first last end ≡ true → StayInside program at first last end
+  stay at first last end e = let (some, stays) = allowed true false at first last end e in record { some = some; stays = stays }
+
   leaving : (at first last end : ℕ) (kind : Submatch) → Stands program at (code.submatch kind first last end) → LeavesGroups h program at kind first last end
   leaving at first last end (lookaround true backward) here = tt
-  leaving at first last end (lookaround false backward) here = λ some. elim (or_cases (nat_le last first) (are_loop_free program (is_visited_once program at) at first last end && have_ranks h at end)
+  leaving at first last end (lookaround false backward) here = λ some. elim (or_cases (nat_le last first) (are_allowed program false (is_visited_once program at) at first last end && have_ranks h at end)
       (each-passes (leaves_groups h program) program leave at (code.submatch (lookaround false backward) first last end) here)) [
         | inl none ↦ let x = leb-true last first none in absurd (omega (arith, x, some))
-        | inr both ↦ let (free, high) = and_parts (are_loop_free program (is_visited_once program at) at first last end) (have_ranks h at end) both in
+        | inr both ↦ let (free, high) = and_parts (are_allowed program false (is_visited_once program at) at first last end) (have_ranks h at end) both in
             (loop-free (is_visited_once program at) at first last end free, leb-true (rank_at h end + (end - at)) (rank_at h at) high)
       ]
-  leaving at first last end atomic here = loop-free false at first last end (each-passes (leaves_groups h program) program leave at (code.submatch atomic first last end) here)
+  leaving at first last end atomic here = stay at first last end (each-passes (leaves_groups h program) program leave at (code.submatch atomic first last end) here)
 
   pub linear-decides : IsLinear (flow_of t) h program
   linear-decides =

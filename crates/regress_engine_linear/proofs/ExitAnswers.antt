@@ -155,7 +155,7 @@ module _ (v : View) (all : AreOfKind v.kind v.units) (program : Program) (suits 
   next-there o place None e = tt
   next-there o place (Some q) e = place-next o q place (sym e)
 
-  further-next : (o q : ℕ) → next v program dir i repeated.1 o ≡ Some q → IsFurther (length v.units) dir o q
+  pub further-next : (o q : ℕ) → next v program dir i repeated.1 o ≡ Some q → IsFurther (length v.units) dir o q
   further-next o q e = by_place takes.0
     where
       takes : Takes (length v.units) dir (taken_by i) o q
@@ -174,7 +174,7 @@ module _ (v : View) (all : AreOfKind v.kind v.units) (program : Program) (suits 
       by_direction Backward = place-lies v all o place
 
   -- behind so many characters there is a place, there or further on
-  after-there : (n o q : ℕ) → IsAtPlace (reading_of v) o → after_times program (input_of v) n i dir [] o ≡ Some q → IsOnward (length v.units) dir o q × IsAtPlace (reading_of v) q
+  pub after-there : (n o q : ℕ) → IsAtPlace (reading_of v) o → after_times program (input_of v) n i dir [] o ≡ Some q → IsOnward (length v.units) dir o q × IsAtPlace (reading_of v) q
   after-there n o q place e =
       let on = after-on v all program suits dir [] (suc (suc at)) i body-before repeated.1 n o q (body-here o place) e in let body : IsBody program v (suc (suc at)) q = on.1 in (on.0.0, body.3)
 

@@ -65,14 +65,14 @@ module _ (program : Program) (input : Input) (i : Instruction) (dir : Direction)
   next o = advance program input i dir gs o
 
   -- there are no more
-  ones-last : (n o : ℕ) → (n ≡ 0) ⊎ (next o ≡ None) → ones n o ≡ o ∷ []
+  pub ones-last : (n o : ℕ) → (n ≡ 0) ⊎ (next o ≡ None) → ones n o ≡ o ∷ []
   unfolding one_by_one
   ones-last zero o over = refl
   ones-last (suc n) o (inl none) = absurd (omega (arith, none))
   ones-last (suc n) o (inr none) = ap (λ (x : Option ℕ). o ∷ elim x [ None ↦ [] | Some q ↦ one_by_one program input n i dir gs q ]) none
 
   -- there is one more at least
-  ones-more : (n o q : ℕ) → (n ≡ 0 → ⊥) → next o ≡ Some q → ones n o ≡ o ∷ ones (n - 1) q
+  pub ones-more : (n o q : ℕ) → (n ≡ 0 → ⊥) → next o ≡ Some q → ones n o ≡ o ∷ ones (n - 1) q
   unfolding one_by_one
   ones-more zero o q some e = absurd (some refl)
   ones-more (suc n) o q some e =

@@ -15,3 +15,4 @@ pub mod WorkLemmas
 pub mod ExitWays
 pub mod LevelLemmas
 pub mod BehindLemmas
+pub mod InsideLemmas

@@ -40,6 +40,30 @@ pub record AreLoopFree (program : Program) (singles : Bool) (at first last conti
   pub some : suc at < continuation
   pub leads : (b : ℕ) (i : Instruction) → at < b → b < continuation → Stands program b i → leads_through singles first last continuation b i ≡ true
 
+-- An instruction inside of contents, from behind one address up to before another, refers to no group. Each address that it leads to is inside,
+-- and so is each group that it writes.
+abbrev pub stays_inside : (first last at end : ℕ) → (b : ℕ) → Instruction → Bool
+stays_inside first last at end b code.goal = true
+stays_inside first last at end b code.fail = true
+stays_inside first last at end b (code.back k icase) = false
+stays_inside first last at end b (code.enter_loop f) = nat_lt (suc b) end && (nat_lt at f.exit && nat_lt f.exit end)
+stays_inside first last at end b (code.loop_again begin) = nat_lt at begin && nat_lt begin end
+stays_inside first last at end b (code.single_loop least most greedy) = nat_lt (suc (suc b)) end
+stays_inside first last at end b (code.jump a) = nat_lt at a && nat_lt a end
+stays_inside first last at end b (code.alt a) = nat_lt (suc b) end && (nat_lt at a && nat_lt a end)
+stays_inside first last at end b (code.begin_group k) = nat_lt (suc b) end && (nat_le first k && nat_lt k last)
+stays_inside first last at end b (code.end_group k) = nat_lt (suc b) end && (nat_le first k && nat_lt k last)
+stays_inside first last at end b (code.reset_group k) = nat_lt (suc b) end && (nat_le first k && nat_lt k last)
+stays_inside first last at end b (code.submatch kind low high continuation) =
+    nat_lt (suc b) end && ((nat_lt at continuation && nat_lt continuation end) && (nat_le first low && nat_le high last))
+stays_inside first last at end b i = nat_lt (suc b) end
+
+-- The contents of what is matched by itself may have loops: no way leads out of them but from their end, and they write the groups inside
+-- alone.
+pub record StayInside (program : Program) (at first last continuation : ℕ) : Type 0 where
+  pub some : suc at < continuation
+  pub stays : (b : ℕ) (i : Instruction) → at < b → b < continuation → Stands program b i → stays_inside first last at continuation b i ≡ true
+
 -- an instruction is the start of the text
 abbrev pub is_text_start : Option Instruction → Bool
 is_text_start (Some (code.line_start false)) = true
@@ -68,12 +92,12 @@ abbrev pub HaveRanks : Heights → (at continuation : ℕ) → Type 0
 HaveRanks h at continuation = rank_at h continuation + (continuation - at) ≤ rank_at h at
 
 -- What a lookaround leaves is where it stands: it is negated, no groups are inside, or its contents have no loop, so that a way through them is
--- as short as they are, and ranks lie between. Where it is visited at most once they may have loops of one character. The contents of an atomic
--- group have none.
+-- as short as they are, and ranks lie between. Where it is visited at most once they may have loops of one character. No way leads out of the
+-- contents of an atomic group but from their end.
 abbrev pub LeavesGroups : Heights → Program → (at : ℕ) → Submatch → (first last continuation : ℕ) → Type 0
 LeavesGroups h program at (lookaround true backward) first last continuation = Unit {0}
 LeavesGroups h program at (lookaround false backward) first last continuation = first < last → AreLoopFree program (is_visited_once program at) at first last continuation × HaveRanks h at continuation
-LeavesGroups h program at atomic first last continuation = AreLoopFree program false at first last continuation
+LeavesGroups h program at atomic first last continuation = StayInside program at first last continuation
 
 -- of a one-character loop there are few iterations at least, and few or any number at most
 abbrev pub few : ℕ
@@ -84,7 +108,7 @@ AreFew least most = (least ≤ few) × ((too_long ≤ most) ⊎ (most ≤ few))
 
 -- A program is linear, by what flows through it and by a ranking: no back reference can be reached, no way leads back to an address without
 -- taking something, no repetition has a greatest number but 1, or a small one of one character, and of a lookaround nothing is left but whether
--- it matches, or what contents without loops leave, as of each atomic group.
+-- it matches, or what contents without loops leave.
 pub record IsLinear (flow : Flow) (h : Heights) (program : Program) : Type 0 where
   pub flows : IsFlow flow program
   pub calm : (at : ℕ) → at < length program.instructions → flow.calm at ≡ true

@@ -5,7 +5,7 @@ use Rattle.regress_engine_insn.specs.Instructions.{Instruction, Program}
 use Rattle.regress_engine_insn.specs.Instructions as code
 use Rattle.regress_engine_memory.specs.Deciding.{Table, calm_at, live_at}
 use Rattle.regress_engine_memory.specs.Passing.{all_pass}
-use Rattle.regress_engine_linear.specs.Linear.{few, is_visited_once, leads_through, too_long}
+use Rattle.regress_engine_linear.specs.Linear.{few, is_visited_once, leads_through, stays_inside, too_long}
 use Rattle.regress_engine_linear.specs.RankTables.{Heights, forward_at, rank_at}
 
 -- a greatest number is one that no text can reach
@@ -28,13 +28,19 @@ module _ (t : Table) where
   is_fit h program = all_pass fits_at 0 program.instructions && ((length (live_at t 0) == 0) && (forward_at h 0
       && (nat_lt 0 (length h.ranks) && ((length h.ranks == length program.instructions) && (length h.order == length program.instructions)))))
 
--- an instruction stands outside of contents, from behind one address up to before another, or leads through them
-abbrev pub leads_inside : (singles : Bool) → (at first last end : ℕ) → (b : ℕ) → Instruction → Bool
-leads_inside singles at first last end b i = (nat_le b at || nat_le end b) || leads_through singles first last end b i
+-- an instruction is allowed inside of contents: where loops may stand it stays inside, else it leads through
+abbrev pub is_allowed : (loops singles : Bool) → (at first last end : ℕ) → (b : ℕ) → Instruction → Bool
+is_allowed true singles at first last end b i = stays_inside first last at end b i
+is_allowed false singles at first last end b i = leads_through singles first last end b i
 
--- contents have no loop, but of one character where such may stand
-abbrev pub are_loop_free : Program → (singles : Bool) → (at first last continuation : ℕ) → Bool
-are_loop_free program singles at first last continuation = nat_lt (suc at) continuation && all_pass (leads_inside singles at first last continuation) 0 program.instructions
+-- it stands outside of contents, from behind one address up to before another, or is allowed there
+abbrev pub is_allowed_inside : (loops singles : Bool) → (at first last end : ℕ) → (b : ℕ) → Instruction → Bool
+is_allowed_inside loops singles at first last end b i = (nat_le b at || nat_le end b) || is_allowed loops singles at first last end b i
+
+-- there are contents, and each instruction inside is allowed
+abbrev pub are_allowed : Program → (loops singles : Bool) → (at first last continuation : ℕ) → Bool
+are_allowed program loops singles at first last continuation =
+    nat_lt (suc at) continuation && all_pass (is_allowed_inside loops singles at first last continuation) 0 program.instructions
 
 -- as many ranks as they have instructions lie between where they stand and where it goes on behind them
 abbrev pub have_ranks : Heights → (at continuation : ℕ) → Bool
@@ -43,6 +49,7 @@ have_ranks h at continuation = nat_le (rank_at h continuation + (continuation - 
 module _ (h : Heights) (program : Program) where
   -- what a lookaround or an atomic group leaves is as it has to be
   abbrev pub leaves_groups : (at : ℕ) → Instruction → Bool
-  leaves_groups at (code.submatch (lookaround false backward) first last continuation) = nat_le last first || (are_loop_free program (is_visited_once program at) at first last continuation && have_ranks h at continuation)
-  leaves_groups at (code.submatch atomic first last continuation) = are_loop_free program false at first last continuation
+  leaves_groups at (code.submatch (lookaround false backward) first last continuation) = nat_le last first
+      || (are_allowed program false (is_visited_once program at) at first last continuation && have_ranks h at continuation)
+  leaves_groups at (code.submatch atomic first last continuation) = are_allowed program true false at first last continuation
   leaves_groups at i = true

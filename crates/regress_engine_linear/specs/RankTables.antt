@@ -1,5 +1,5 @@
 -- A table of ranks, and the test that instructions lead on to what is ranked lower.
-use Rattle.std.specs.Prelude.{◌≡◌, ◌<◌, ◌⊎◌, ℕ, suc, ◌&&◌, ◌||◌, ◌==◌, not, Bool, true, false, List, Option, Some, None, if◌then◌else◌, length, get_or, slice_get, nat_lt, nat_le}
+use Rattle.std.specs.Prelude.{◌≡◌, ◌+◌, ◌<◌, ◌⊎◌, ℕ, suc, ◌&&◌, ◌||◌, ◌==◌, not, Bool, true, false, List, [], ◌∷◌, Option, Some, None, if◌then◌else◌, length, get_or, slice_get, nat_lt, nat_le}
 use Rattle.regress_meaning.specs.Text.{holds}
 use Rattle.regress_front_nodes.specs.Trees.{Submatch, lookaround, atomic}
 use Rattle.regress_engine_insn.specs.Instructions.{LoopFields, Instruction, Program}
@@ -25,7 +25,16 @@ pub record Heights : Type 0 where
 abbrev pub heights_of : RankTable → Heights
 heights_of t = record { ranks = t.ranks.items; levels = t.levels.items; outside = t.outside.items; tops = t.tops.items; order = t.order.items; indices = t.indices.items }
 
+-- how many of some numbers are below another
+abbrev pub below : ℕ → List ℕ → ℕ
+below n [] = 0
+below n (x ∷ xs) = (if nat_lt x n then 1 else 0) + below n xs
+
 module _ (h : Heights) where
+  -- so many addresses are inside of the contents of atomic groups
+  abbrev pub inside_in : ℕ
+  inside_in = below (length h.ranks) h.outside
+
   -- the rank of an address
   abbrev pub rank_at : ℕ → ℕ
   rank_at a = get_or h.ranks a 0

@@ -1,29 +1,14 @@
-//! The test that a way through the contents of lookarounds is as short as they are.
+//! The test that a way through the contents of lookarounds is as short as they are, and that none leads out of those of atomic groups.
 ghost use Rattle.std.specs.Prelude.{◌≡◌, ◌&&◌, suc, ◌+◌, ◌-◌, ◌^◌, ◌<◌, length, map, nat_le, nat_lt, ◌||◌, slice_get};
 ghost use Rattle.regress_engine_insn.specs.Instructions.{Program};
 ghost use Rattle.regress_engine_insn.specs.InsnViews.{instruction};
 ghost use Rattle.regress_engine_memory.specs.Passing.{all_pass};
-ghost use Rattle.regress_engine_linear.specs.Linear.{is_text_start, leads_through, once_until, repeats};
-ghost use Rattle.regress_engine_linear.specs.LinearTests.{are_loop_free, have_ranks, leads_inside, leaves_groups};
+ghost use Rattle.regress_engine_linear.specs.Linear.{is_text_start, leads_through, once_until, repeats, stays_inside};
+ghost use Rattle.regress_engine_linear.specs.LinearTests.{are_allowed, have_ranks, is_allowed, is_allowed_inside, leaves_groups};
 ghost use Rattle.regress_engine_linear.specs.RankTables.{heights_of, rank_at};
 
 use crate::ranks::RankTable;
 use regress_engine_insn::Insn;
-
-/// How long the contents of all atomic groups of a program that is told to be linear are together at most, for each of its addresses. What is
-/// told of an atomic group is worked out along its contents, also along those inside.
-pub const MOST_INSIDE: usize = 8;
-
-/// Whether the contents of all atomic groups are no longer than so many programs.
-pub(crate) fn are_short(insns: &[Insn]) -> bool {
-    let mut inside: usize = 0;
-    for at in 0..insns.len() {
-        if let Insn::Atomic { continuation, .. } = &insns[at] {
-            inside = inside.saturating_add((*continuation as usize).saturating_sub(at));
-        }
-    }
-    inside <= MOST_INSIDE.saturating_mul(insns.len())
-}
 
 /// The contents of a lookaround or an atomic group: they stand between two addresses, and groups from the first up to before the last are
 /// inside.
@@ -37,6 +22,8 @@ struct Passage {
     last: usize,
     /// The address behind them.
     end: usize,
+    /// Whether any loops may stand inside.
+    loops: bool,
     /// Whether loops of one character may stand inside.
     singles: bool,
 }
@@ -77,6 +64,13 @@ impl Passage {
         ensures { result ≡ (nat_lt from to && nat_lt to self.now.end) }
     {
         from < to && to < self.end
+    }
+
+    /// Whether an address is inside.
+    fn has(&self, to: usize) -> bool
+        ensures { result ≡ (nat_lt self.now.at to && nat_lt to self.now.end) }
+    {
+        self.at < to && to < self.end
     }
 
     /// Whether a group is inside.
@@ -143,27 +137,80 @@ impl Passage {
         }
     }
 
-    /// Whether each instruction inside does.
-    fn lead_through(&self, insns: &[Insn]) -> bool
+    /// Whether each address that an instruction leads to is inside, and each group that it writes.
+    fn stays_inside(&self, at: usize, insn: &Insn) -> bool
+        requires { at + 2 < 2 ^ 64 }
+        ensures { result ≡ stays_inside self.now.first self.now.last self.now.at self.now.end at (instruction insn.now) }
+    {
+        match insn {
+            Insn::Goal | Insn::JustFail => true,
+            Insn::BackRef { .. } => false,
+            Insn::EnterLoop(repetition) => at + 1 < self.end && self.has(repetition.exit as usize),
+            Insn::LoopAgain { begin } => self.has(*begin as usize),
+            Insn::Loop1CharBody { .. } => at + 2 < self.end,
+            Insn::Jump { target } => self.has(*target as usize),
+            Insn::Alt { secondary } => at + 1 < self.end && self.has(*secondary as usize),
+            Insn::BeginCaptureGroup(group)
+            | Insn::EndCaptureGroup(group)
+            | Insn::ResetCaptureGroup(group) => at + 1 < self.end && self.holds(*group as usize),
+            Insn::Lookahead {
+                start_group,
+                end_group,
+                continuation,
+                ..
+            }
+            | Insn::Lookbehind {
+                start_group,
+                end_group,
+                continuation,
+                ..
+            }
+            | Insn::Atomic {
+                start_group,
+                end_group,
+                continuation,
+            } => {
+                at + 1 < self.end
+                    && (self.has(*continuation as usize)
+                        && self.holds_all(*start_group as usize, *end_group as usize))
+            }
+            _ => at + 1 < self.end,
+        }
+    }
+
+    /// Whether an instruction is allowed inside.
+    fn allows(&self, at: usize, insn: &Insn) -> bool
+        requires { at + 2 < 2 ^ 64 }
+        ensures { result ≡ is_allowed self.now.loops self.now.singles self.now.at self.now.first self.now.last self.now.end at (instruction insn.now) }
+    {
+        if self.loops {
+            self.stays_inside(at, insn)
+        } else {
+            self.leads_through(at, insn)
+        }
+    }
+
+    /// Whether each instruction inside is.
+    fn allows_each(&self, insns: &[Insn]) -> bool
         requires { self.now.at < length insns.now }
         ensures { (program : Program) → program.instructions ≡ map instruction insns.now
-            → result ≡ all_pass (leads_inside self.now.singles self.now.at self.now.first self.now.last self.now.end) 0 program.instructions }
+            → result ≡ all_pass (is_allowed_inside self.now.loops self.now.singles self.now.at self.now.first self.now.last self.now.end) 0 program.instructions }
     {
         for at in self.at + 1..self.end.min(insns.len()) {
-            if !self.leads_through(at, &insns[at]) {
+            if !self.allows(at, &insns[at]) {
                 return false;
             }
         }
         true
     }
 
-    /// Whether the contents have no loop, but of one character where such may stand.
-    fn is_loop_free(&self, insns: &[Insn]) -> bool
+    /// Whether there are contents, and each instruction inside is allowed.
+    fn are_allowed(&self, insns: &[Insn]) -> bool
         requires { self.now.at < length insns.now }
         ensures { (program : Program) → program.instructions ≡ map instruction insns.now
-            → result ≡ are_loop_free program self.now.singles self.now.at self.now.first self.now.last self.now.end }
+            → result ≡ are_allowed program self.now.loops self.now.singles self.now.at self.now.first self.now.last self.now.end }
     {
-        self.at + 1 < self.end && self.lead_through(insns)
+        self.at + 1 < self.end && self.allows_each(insns)
     }
 }
 
@@ -177,8 +224,8 @@ impl RankTable {
         low <= high && end.saturating_sub(at) <= high - low
     }
 
-    /// Whether what a lookaround or an atomic group at an address leaves is as it has to be: its contents have no loop, if they are gone
-    /// through, and those of a lookaround ranks enough. Up to another address each is visited at most once.
+    /// Whether what a lookaround or an atomic group at an address leaves is as it has to be: the contents of a lookaround that are gone through
+    /// have no loop, and ranks enough, and no way leads out of those of an atomic group. Up to another address each is visited at most once.
     fn leaves_groups(&self, insns: &[Insn], once: usize, at: usize, insn: &Insn) -> bool
         requires { at < length insns.now }
         ensures { (program : Program) → program.instructions ≡ map instruction insns.now
@@ -202,10 +249,11 @@ impl RankTable {
                     first: *start_group as usize,
                     last: *end_group as usize,
                     end: *continuation as usize,
+                    loops: false,
                     singles: at < once,
                 };
                 passage.last <= passage.first
-                    || (passage.is_loop_free(insns) && self.have_ranks(at, passage.end))
+                    || (passage.are_allowed(insns) && self.have_ranks(at, passage.end))
             }
             Insn::Atomic {
                 start_group,
@@ -217,9 +265,10 @@ impl RankTable {
                     first: *start_group as usize,
                     last: *end_group as usize,
                     end: *continuation as usize,
+                    loops: true,
                     singles: false,
                 };
-                passage.is_loop_free(insns)
+                passage.are_allowed(insns)
             }
             _ => true,
         }

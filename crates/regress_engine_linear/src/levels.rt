@@ -1,5 +1,5 @@
 //! The levels of a linear program, one behind another.
-ghost use Rattle.std.specs.Prelude.{◌≡◌, ◌<◌, length};
+ghost use Rattle.std.specs.Prelude.{◌≡◌, ◌<◌, length, nat_lt};
 ghost use Rattle.regress_engine_linear.specs.Levels.{IsCut, IsLevel, IsRun};
 ghost use Rattle.regress_engine_linear.specs.RankTables.{ArePlaced, address_at, heights_of, level_at, outside_at};
 
@@ -42,15 +42,26 @@ impl LinearTable {
         self.ranks.address(index)
     }
 
-    /// Where it goes on outside of the atomic group whose contents an address is in, or the address behind the last.
+    /// How many addresses are inside of the contents of atomic groups.
     ///
     /// ```rust
-    /// let behind = table.outside(3);
+    /// let inside = table.inside();
     /// ```
-    pub fn outside(&self, at: usize) -> usize
-        ensures { result ≡ outside_at (heights_of self.now.ranks) at }
+    pub fn inside(&self) -> usize
+        ensures { result ≡ self.now.inside }
     {
-        self.ranks.outside(at)
+        self.inside
+    }
+
+    /// Whether an address is inside of the contents of an atomic group.
+    ///
+    /// ```rust
+    /// let inside = table.is_inside(3);
+    /// ```
+    pub fn is_inside(&self, at: usize) -> bool
+        ensures { result ≡ nat_lt (outside_at (heights_of self.now.ranks) at) (length (heights_of self.now.ranks).ranks) }
+    {
+        self.ranks.outside(at) < self.ranks.ranks.len()
     }
 
     /// The level whose first address stands at an index of the order.

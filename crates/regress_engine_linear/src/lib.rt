@@ -8,7 +8,6 @@ mod making;
 mod ranks;
 mod testing;
 
-pub use contents::MOST_INSIDE;
 pub use laws::{
     answers_are_told_by_those_ahead, running_failures_forget, running_states_lead_on,
     running_states_run_alike, runs_go_beyond,

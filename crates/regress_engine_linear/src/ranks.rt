@@ -4,7 +4,7 @@ ghost use Rattle.regress_engine_insn.specs.Instructions.{Program};
 ghost use Rattle.regress_engine_insn.specs.InsnViews.{fields, instruction};
 ghost use Rattle.regress_engine_runs.specs.Runs.{fields_of};
 ghost use Rattle.regress_engine_memory.specs.TableViews.{table_of};
-ghost use Rattle.regress_engine_linear.specs.RankTables.{IsBefore, address_at, are_ranked, cycles, forward_at, heights_of, index_at, is_apart, is_before, is_cycle, is_on, is_read, leaves, level_at, lowers, outside_at, rank_at, ranks, top_of};
+ghost use Rattle.regress_engine_linear.specs.RankTables.{IsBefore, address_at, are_ranked, cycles, forward_at, heights_of, index_at, inside_in, is_apart, is_before, is_cycle, is_on, is_read, leaves, level_at, lowers, outside_at, rank_at, ranks, top_of};
 
 use regress_engine_insn::{Insn, LoopFields};
 use regress_engine_memory::{FlowTable, taken_by};
@@ -77,6 +77,20 @@ impl RankTable {
         } else {
             0
         }
+    }
+
+    /// How many addresses are inside of the contents of atomic groups.
+    pub(crate) fn inside(&self) -> usize
+        ensures { result ≡ inside_in (heights_of self.now) }
+    {
+        let count = self.ranks.len();
+        let mut inside = 0;
+        for at in 0..self.outside.len() {
+            if self.outside[at] < count {
+                inside += 1;
+            }
+        }
+        inside
     }
 
     /// The rank of where the body of a loop begins.

@@ -7,9 +7,8 @@ ghost use Rattle.regress_engine_memory.specs.Passing.{all_pass};
 ghost use Rattle.regress_engine_memory.specs.TableViews.{table_of};
 ghost use Rattle.regress_engine_linear.specs.Linear.{IsLinear};
 ghost use Rattle.regress_engine_linear.specs.LinearTests.{fits_at, is_unbounded, may_stand};
-ghost use Rattle.regress_engine_linear.specs.RankTables.{forward_at, heights_of};
+ghost use Rattle.regress_engine_linear.specs.RankTables.{forward_at, heights_of, inside_in};
 
-use crate::contents::are_short;
 use crate::ranks::RankTable;
 use regress_engine_insn::Insn;
 use regress_engine_memory::FlowTable;
@@ -74,6 +73,8 @@ fn are_fit(flow: &FlowTable, insns: &[Insn]) -> bool
 pub struct LinearTable {
     pub(crate) flow: FlowTable,
     pub(crate) ranks: RankTable,
+    /// How many addresses are inside of the contents of atomic groups.
+    pub(crate) inside: usize,
 }
 
 impl LinearTable {
@@ -90,7 +91,7 @@ impl LinearTable {
     }
 
     /// The table of a program with so many loops, where the program is linear; `None` where it is not, or has more than `MOST_ADDRESSES`
-    /// addresses, or the contents of its atomic groups are too long together (`MOST_INSIDE`). It errs only where memory is refused.
+    /// addresses. It errs only where memory is refused.
     ///
     /// ```rust
     /// let table = LinearTable::of(alloc, program.insns(), program.loops() as usize)?;
@@ -100,10 +101,11 @@ impl LinearTable {
         insns: &[Insn],
         loops: usize,
     ) -> Result<Option<LinearTable>, AllocError>
-        ensures { IfOk result (λ found. IfSome found (λ table. (program : Program) → program.instructions ≡ map instruction insns.now
+        ensures linear { IfOk result (λ found. IfSome found (λ table. (program : Program) → program.instructions ≡ map instruction insns.now
             → IsLinear (flow_of (table_of table.flow)) (heights_of table.ranks) program)) }
+        ensures inside { IfOk result (λ found. IfSome found (λ table. table.inside ≡ inside_in (heights_of table.ranks))) }
     {
-        if MOST_ADDRESSES < insns.len() || !are_short(insns) {
+        if MOST_ADDRESSES < insns.len() {
             return Ok(None);
         }
         let Some(flow) = FlowTable::of(alloc, insns, loops)? else {
@@ -118,7 +120,11 @@ impl LinearTable {
         if !ranks.leave_groups(insns) {
             return Ok(None);
         }
-        let table = LinearTable { flow, ranks };
+        let table = LinearTable {
+            inside: ranks.inside(),
+            flow,
+            ranks,
+        };
         if table.begins(insns.len()) {
             Ok(Some(table))
         } else {

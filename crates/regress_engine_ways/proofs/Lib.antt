@@ -1,3 +1,5 @@
 pub mod OnWay
 pub mod Through
+pub mod Staying
 pub mod Ends
+pub mod ExitEnds

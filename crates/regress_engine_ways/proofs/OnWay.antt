@@ -396,7 +396,8 @@ module _ (flow : Flow) (h : Heights) (v : View) (all : AreOfKind v.kind v.units)
 
     -- into the contents of one, and behind it with the groups inside that these have written
     pub look-into : (backward : Bool) (low high continuation : ℕ) → Stands program at (code.submatch (lookaround false backward) low high continuation)
-        → (t : Whole) × IsOnWay flow h program v (direction_of (not backward)) t (suc at) o gs × IsOnWay flow h program v dir w continuation o (mixed 0 low high t.groups gs) × Past continuation o
+        → (t : Whole) × IsOnWay flow h program v (direction_of (not backward)) t (suc at) o gs × IsOnWay flow h program v dir w continuation o (mixed 0 low high t.groups gs)
+        × IsBeyond r last dir s (whole continuation o way.loops (mixed 0 low high t.groups gs))
     look-into backward low high continuation here =
         let (q, (m, inner), rest) = look-runs (lookaround false backward) low high continuation here in by_answer q m inner rest
       where
@@ -406,7 +407,8 @@ module _ (flow : Flow) (h : Heights) (v : View) (all : AreOfKind v.kind v.units)
 
         by_answer : (q : Option Whole) (m : ℕ) → Run program input (submatch_direction (lookaround false backward) dir) (onward s ∷ []) m q
             → Rest w s p (after_submatch (lookaround false backward) low high continuation s q)
-            → (t : Whole) × IsOnWay flow h program v (direction_of (not backward)) t (suc at) o gs × IsOnWay flow h program v dir w continuation o (mixed 0 low high t.groups gs) × Past continuation o
+            → (t : Whole) × IsOnWay flow h program v (direction_of (not backward)) t (suc at) o gs × IsOnWay flow h program v dir w continuation o (mixed 0 low high t.groups gs)
+            × IsBeyond r last dir s (whole continuation o way.loops (mixed 0 low high t.groups gs))
         by_answer None m inner rest = absurd (none-left w s p rest)
         by_answer (Some t) m inner rest =
             let ms : List Marks = mixed 0 low high t.groups gs in
@@ -414,12 +416,13 @@ module _ (flow : Flow) (h : Heights) (v : View) (all : AreOfKind v.kind v.units)
               t,
               subst (λ d. IsOnWay flow h program v d t (suc at) o gs) (turned backward) (anew (lookaround false backward) low high continuation here t m inner),
               comes-way continuation o ms (way.loops, rest, fine),
-              past s (whole continuation o way.loops ms) p fine.1.0 fine.3,
+              fine.1.0,
             )
 
     -- into the contents of one, and behind it
     pub atomic-into : (low high continuation : ℕ) → Stands program at (code.submatch atomic low high continuation)
-        → (t : Whole) × IsOnWay flow h program v dir t (suc at) o gs × IsOnWay flow h program v dir w continuation t.offset (mixed 0 low high t.groups gs) × Past continuation t.offset
+        → (t : Whole) × IsOnWay flow h program v dir t (suc at) o gs × IsOnWay flow h program v dir w continuation t.offset (mixed 0 low high t.groups gs)
+        × IsBeyond r last dir s (whole continuation t.offset way.loops (mixed 0 low high t.groups gs))
     atomic-into low high continuation here =
         let (q, (m, inner), rest) = look-runs atomic low high continuation here in
         by_answer q m inner rest
@@ -427,14 +430,15 @@ module _ (flow : Flow) (h : Heights) (v : View) (all : AreOfKind v.kind v.units)
       where
         by_answer : (q : Option Whole) (m : ℕ) → Run program input dir (onward s ∷ []) m q → Rest w s p (after_submatch atomic low high continuation s q)
             → IfSome q (λ t. ((ms : List Marks) → IsBeyond r last dir s (whole continuation t.offset way.loops ms)) × (t.offset ≤ last))
-            → (t : Whole) × IsOnWay flow h program v dir t (suc at) o gs × IsOnWay flow h program v dir w continuation t.offset (mixed 0 low high t.groups gs) × Past continuation t.offset
+            → (t : Whole) × IsOnWay flow h program v dir t (suc at) o gs × IsOnWay flow h program v dir w continuation t.offset (mixed 0 low high t.groups gs)
+            × IsBeyond r last dir s (whole continuation t.offset way.loops (mixed 0 low high t.groups gs))
         by_answer None m inner rest on = absurd (none-left w s p rest)
         by_answer (Some t) m inner rest (on, lies) =
             let ms : List Marks = mixed 0 low high t.groups gs in (
               t,
               anew atomic low high continuation here t m inner,
               comes-way continuation t.offset ms (way.loops, rest, good atomic low high continuation here t.offset lies ms (on ms)),
-              past s (whole continuation t.offset way.loops ms) p (on ms) (may.ranked at (code.submatch atomic low high continuation) way.running.calm here).0.level,
+              on ms,
             )
 
     -- From each state but that of the goal the way leads on, but into the contents of a lookaround.

@@ -15,7 +15,7 @@ use Rattle.regress_engine_ways.specs.Ways.{AreKept, first_of, led, marked, stati
 use Rattle.regress_engine_ways.specs.declared.station.Station.{Station}
 
 module _ (singles : Bool) (first last end : ℕ) where
-  written : (k : ℕ) (x : Marks) (new old : List Marks) → (nat_le first k && nat_lt k last) ≡ true → AreKept first last new old → AreKept first last (slice_set new k x) old
+  pub written : (k : ℕ) (x : Marks) (new old : List Marks) → (nat_le first k && nat_lt k last) ≡ true → AreKept first last new old → AreKept first last (slice_set new k x) old
   written k x new old inside (count, kept) =
       let (low, high) = and_parts (nat_le first k) (nat_lt k last) inside in (
         length-set new k x ∙ count,

@@ -1,5 +1,7 @@
 -- The way along what is told to have an answer.
-use Rattle.std.specs.Prelude.{◌≡◌, ℕ, zero, suc, ◌-◌, ◌<◌, ◌≤◌, Bool, true, false, List, [], ◌∷◌, length, Option, Some, None, if◌then◌else◌, get_or, nat_le, nat_lt, slice_get, slice_set}
+use Rattle.std.specs.Prelude.{◌≡◌, ℕ, suc, ◌<◌, ◌≤◌, Bool, true, false, List, [], ◌∷◌, length, Option, Some, None, if◌then◌else◌, get_or, nat_le, nat_lt, option_map, reverse, slice_get, slice_set}
+use Rattle.std.specs.List.{AllByRecursion}
+use Rattle.std.specs.Option.{option_or}
 use Rattle.regress_meaning.specs.Meaning.{Direction}
 use Rattle.regress_meaning.specs.Inputs.{Input}
 use Rattle.regress_front_nodes.specs.Trees.{Submatch, lookaround, atomic}
@@ -7,12 +9,12 @@ use Rattle.regress_engine_input.specs.Views.{View, input_of}
 use Rattle.regress_engine_insn.specs.Instructions.{LoopFields, Instruction, Program, Stands}
 use Rattle.regress_engine_insn.specs.Instructions as code
 use Rattle.regress_engine_runs.specs.Meets.{referred}
-use Rattle.regress_engine_runs.specs.Runs.{Run, advance, fields_of}
+use Rattle.regress_engine_runs.specs.Runs.{Run, advance, fields_of, one_by_one, room}
 use Rattle.regress_engine_runs.specs.States.{Marks, Whole, begun, ended, unset}
-use Rattle.regress_engine_runs.specs.UndoStack.{whole}
+use Rattle.regress_engine_runs.specs.UndoStack.{at_each, whole}
 use Rattle.regress_engine_memory.specs.Flow.{Flow, IsFlow}
 use Rattle.regress_engine_linear.specs.Ranks.{AreRanked, AreRunning, AreUnboundedOrOnce}
-use Rattle.regress_engine_linear.specs.RankTables.{ArePlaced, Heights, outside_at, ranking_of}
+use Rattle.regress_engine_linear.specs.RankTables.{ArePlaced, Heights, ranking_of}
 use Rattle.regress_engine_linear.specs.Answered.{ReadsAlong, answer_at, exit_at}
 use Rattle.regress_engine_linear.specs.Linear.{LeavesGroups}
 use Rattle.regress_engine_ways.specs.declared.station.Station.{Station}
@@ -108,39 +110,90 @@ pub record IsOnWay (flow : Flow) (h : Heights) (program : Program) (v : View) (d
 abbrev pub AreKept : (first last : ℕ) → (new old : List Marks) → Type 0
 AreKept first last new old = (length new ≡ length old) × ((k : ℕ) → (first ≤ k → k < last → ⊥) → get_or new k unset ≡ get_or old k unset)
 
--- ---- where contents end
+-- ---- where runs end
+
+-- A run from an address and an offset that reads at places ends at this offset, if it has an answer, whatever the groups are, and whatever the
+-- loops that are under way there.
+abbrev pub IsEndedAt : Flow → Heights → Program → View → Direction → (at o : ℕ) → Option ℕ → Type 0
+IsEndedAt flow h program v dir at o end = (loops : List (ℕ × ℕ)) (groups : List Marks) → AreRunning flow (ranking_of h) program (length v.units) dir (whole at o loops groups)
+    → ReadsAlong program v dir (whole at o loops groups ∷ []) → (n : ℕ) (a : Option Whole) → Run program (input_of v) dir (whole at o loops groups ∷ []) n a
+    → option_map (λ w. w.offset) a ≡ end
 
 -- it is told of an address, at an offset if there is one
 abbrev pub told_if : (told : ℕ → ℕ → Bool) → (at : ℕ) → Option ℕ → Bool
 told_if told at None = false
 told_if told at (Some o) = told at o
 
--- The way through contents that end before an address ends at an instruction: at the goal behind which it goes on no further inside.
-abbrev pub ends_contents : Heights → (end : ℕ) → Instruction → (at : ℕ) → Bool
-ends_contents h end code.goal at = nat_le end (outside_at h at)
-ends_contents h end i at = false
+-- where runs from an address end, at an offset if there is one
+abbrev pub end_if : (ends : ℕ → ℕ → Option ℕ) → (at : ℕ) → Option ℕ → Option ℕ
+end_if ends at None = None
+end_if ends at (Some o) = ends at o
 
-module _ (h : Heights) (told : ℕ → ℕ → Bool) (program : Program) (input : Input) (dir : Direction) (groups : List Marks) where
-  -- Where the way through contents goes on: also inside of an atomic group that stands in them, and from the goal there behind that group.
-  -- Behind a one-character loop it is not looked for.
-  abbrev pub passed : Instruction → (at o : ℕ) → Option Station
-  passed code.goal at o = Some (station (outside_at h at) o)
-  passed (code.single_loop least most greedy) at o = None
-  passed (code.submatch atomic first last continuation) at o = Some (station (suc at) o)
-  passed i at o = led told program input dir groups i at o
+-- where runs end from where a way goes on, if it does
+abbrev pub end_from : (ends : ℕ → ℕ → Option ℕ) → Option Station → Option ℕ
+end_from ends None = None
+end_from ends (Some x) = ends x.at x.offset
 
-  -- Where the way ends it is there; else the rest of the way tells it, from where it goes on.
-  abbrev pub end_by : (end : ℕ) → (rest : ℕ → ℕ → Option ℕ) → (at o : ℕ) → Option Instruction → Option ℕ
-  end_by end rest at o None = None
-  end_by end rest at o (Some i) = if ends_contents h end i at then Some o else (elim (passed i at o) [ None ↦ None | Some x ↦ rest x.at x.offset ])
-
-  -- Where the preferred way through contents that end before an address ends, from an address and an offset on along what is told, in at most
-  -- so many steps.
-  unfoldable pub contents_end : (end : ℕ) → ℕ → (at o : ℕ) → Option ℕ
-  contents_end end zero at o = None
-  contents_end end (suc n) at o = if told at o then end_by end (λ b q. contents_end end n b q) at o (slice_get program.instructions at) else None
-
+module _ (told : ℕ → ℕ → Bool) (ends : ℕ → ℕ → Option ℕ) (program : Program) (input : Input) (dir : Direction) where
   -- What is worked out of an address and an offset. Of an atomic group it is told by where its contents end.
   abbrev pub value_at : Instruction → (at o : ℕ) → Bool
-  value_at (code.submatch atomic first last continuation) at o = told_if told continuation (contents_end continuation (continuation - at) (suc at) o)
+  value_at (code.submatch atomic first last continuation) at o = told_if told continuation (ends (suc at) o)
   value_at i at o = answer_at told program input dir i at o
+
+  -- Where runs that have an answer end, by where those end to which the instruction leads.
+  abbrev pub end_at : (groups : List Marks) → Instruction → (at o : ℕ) → Option ℕ
+  end_at groups code.goal at o = Some o
+  end_at groups (code.submatch atomic first last continuation) at o = end_if ends continuation (ends (suc at) o)
+  end_at groups i at o = end_from ends (led told program input dir groups i at o)
+
+-- ---- where runs end from the exits of a one-character loop
+
+-- of where a run ends from an exit, and from those behind it, the preferred one
+abbrev pub preferred : (greedy : Bool) → (here beyond : Option ℕ) → Option ℕ
+preferred greedy here beyond = if greedy then option_or beyond here else option_or here beyond
+
+-- of all exits at some offsets
+abbrev pub preferred_of : (ends : ℕ → Option ℕ) → (greedy : Bool) → List ℕ → Option ℕ
+preferred_of ends greedy [] = None
+preferred_of ends greedy (o ∷ os) = preferred greedy (ends o) (preferred_of ends greedy os)
+
+-- of all exits behind at least one more character; the offset behind one is given
+abbrev pub end_beyond : (ends exit_ends : ℕ → Option ℕ) → (greedy : Bool) → (next : Option ℕ) → Option ℕ
+end_beyond ends exit_ends greedy None = None
+end_beyond ends exit_ends greedy (Some q) = preferred greedy (ends q) (exit_ends q)
+
+-- of all exits from some offset on, behind at most so many characters, in a text of so many units
+abbrev pub end_near : (ends exit_ends : ℕ → Option ℕ) → Program → Input → Direction → (greedy : Bool) → (body : Instruction) → (times units : ℕ) → (near : Option ℕ) → Option ℕ
+end_near ends exit_ends program input dir greedy body times units None = None
+end_near ends exit_ends program input dir greedy body times units (Some q) =
+    if nat_lt times units then preferred_of ends greedy (one_by_one program input times body dir [] q) else preferred greedy (ends q) (exit_ends q)
+
+-- some offsets in the order in which they are tried
+abbrev pub in_order : (greedy : Bool) → List ℕ → List ℕ
+in_order greedy os = if greedy then reverse os else os
+
+module _ (flow : Flow) (h : Heights) (program : Program) (v : View) (dir : Direction) where
+  -- A run over some states that reads at places ends at this offset, if it has an answer.
+  abbrev pub AreEndedAt : List Whole → Option ℕ → Type 0
+  AreEndedAt ss end = AllByRecursion (AreRunning flow (ranking_of h) program (length v.units) dir) ss → ReadsAlong program v dir ss
+      → (n : ℕ) (a : Option Whole) → Run program (input_of v) dir ss n a → option_map (λ w. w.offset) a ≡ end
+
+  -- So do runs over all exits of a one-character loop, from an offset on.
+  abbrev pub AreExitsEndedAt : (at : ℕ) → (greedy : Bool) → (body : Instruction) → (o : ℕ) → Option ℕ → Type 0
+  AreExitsEndedAt at greedy body o end = (n : ℕ) → room (length v.units) dir o ≤ n → (loops : List (ℕ × ℕ)) (groups : List Marks)
+      → AreEndedAt (at_each program (input_of v) (suc (suc at)) loops groups (in_order greedy (one_by_one program (input_of v) n body dir [] o))) end
+
+  -- and from the offset behind one more character, if there is one
+  abbrev pub AreEndedFrom : (at : ℕ) → (greedy : Bool) → (body : Instruction) → (next : Option ℕ) → Option ℕ → Type 0
+  AreEndedFrom at greedy body None end = end ≡ None
+  AreEndedFrom at greedy body (Some q) end = AreExitsEndedAt at greedy body q end
+
+  -- so over those behind at least one more
+  abbrev pub AreBeyondEndedAt : (at : ℕ) → (greedy : Bool) → (body : Instruction) → (o : ℕ) → Option ℕ → Type 0
+  AreBeyondEndedAt at greedy body o end = AreEndedFrom at greedy body (advance program (input_of v) body dir [] o) end
+
+  -- and over those behind at most so many characters from where it has as many as it needs
+  abbrev pub AreNearEndedAt : (at : ℕ) → (greedy : Bool) → (body : Instruction) → (times : ℕ) → (near : Option ℕ) → Option ℕ → Type 0
+  AreNearEndedAt at greedy body times None end = end ≡ None
+  AreNearEndedAt at greedy body times (Some q) end = (loops : List (ℕ × ℕ)) (groups : List Marks)
+      → AreEndedAt (at_each program (input_of v) (suc (suc at)) loops groups (in_order greedy (one_by_one program (input_of v) times body dir [] q))) end

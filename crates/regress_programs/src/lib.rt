@@ -15,7 +15,7 @@ pub use compiled::Compiled;
 pub use laws::programs_of_trees_are_of_patterns;
 pub use matches::Matches;
 pub use regress_engine_exec::{
-    BacktrackExecutor, LINEAR_STEPS, MOST_REMEMBERED, MOST_TOLD, Scratch, SearchError,
+    BacktrackExecutor, LINEAR_STEPS, MOST_KEPT, MOST_REMEMBERED, MOST_TOLD, Scratch, SearchError,
 };
 pub use regress_engine_linear::{MOST_ADDRESSES, MOST_REPEATS};
 pub use searcher::Searcher;

@@ -4,7 +4,7 @@ use Rattle.regress_engine_code.specs.Standing.{program_of}
 use Rattle.engine_tests.proofs.failures.linear_table.Goals as goal
 
 pub returns : goal.returns
-returns c = if_ok c.of.result (λ table told. told (program_of c.args.program.now) (ap (map _) (sym c.insns.ensures))) c.of.ensures
+returns c = if_ok c.of.result (λ table told. told (program_of c.args.program.now) (ap (map _) (sym c.insns.ensures))) c.of.ensures.linear
   where
     if_some : {T : Type 0} {P Q : T → Type 0} (o : Option T) → ((x : T) → P x → Q x) → IfSome o P → IfSome o Q
     if_some None f p = tt

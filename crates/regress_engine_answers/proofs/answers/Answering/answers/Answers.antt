@@ -6,7 +6,7 @@ use Rattle.regress_engine_insn.specs.InsnViews.{instruction}
 use Rattle.regress_engine_code.specs.Standing.{program_of}
 use Rattle.regress_engine_linear.specs.LinearViews.{flow_in, heights_in}
 use Rattle.regress_engine_answers.specs.Filled.{IsFilledTo}
-use Rattle.regress_engine_answers.proofs.FillingWays.{empty-filled, filled-exits, filled-right, parted, placed-ranks}
+use Rattle.regress_engine_answers.proofs.FillingWays.{empty-filled, exits-again, filled-exits, filled-right, parted, placed-ranks, right-again}
 use Rattle.regress_engine_answers.proofs.answers.Answering.answers.Goals as goal
 
 pub level-level-requires-clause-placed : goal.level-level-requires-clause-placed
@@ -35,7 +35,12 @@ levels-init g c =
     record {
       low = search rules;
       cut = λ a b there there' less high. absurd (omega (arith, less));
-      sized = (first_of (cc, grind (arith, common_steps)), first_of (cc, grind (arith, common_steps)));
+      sized = record {
+        offsets = first_of (cc, grind (arith, common_steps));
+        exits = first_of (cc, grind (arith, common_steps));
+        ends = first_of (cc, grind (arith, common_steps));
+        exit_ends = first_of (cc, grind (arith, common_steps));
+      };
       filled = empty-filled flow h v all program c.requires.suits c.requires.linear c.requires.short c.in_ok-answers.answers c.in_ok-answers.ensures.none c.in_ok-answers.ensures.none_behind;
       counted = search rules;
     }
@@ -71,7 +76,8 @@ returns-clause-right g c =
     let flow = flow_in c.args.table.now in
     let h = heights_in c.args.table.now in
     let full = c.levels-test.false in
-    filled-right flow h v all program c.requires.suits c.requires.linear c.requires.short c.levels.answers c.levels.from (omega (arith, full)) c.levels.invariant.filled
+    right-again flow h v all program c.requires.suits c.requires.linear c.requires.short c.levels.answers c.forget_ends.new.self c.forget_ends.ensures.offsets c.forget_ends.ensures.exits
+    (filled-right flow h v all program c.requires.suits c.requires.linear c.requires.short c.levels.answers c.levels.from (omega (arith, full)) c.levels.invariant.filled)
 
 pub returns-clause-exits : goal.returns-clause-exits
 returns-clause-exits g c =
@@ -81,7 +87,8 @@ returns-clause-exits g c =
     let flow = flow_in c.args.table.now in
     let h = heights_in c.args.table.now in
     let full = c.levels-test.false in
-    filled-exits flow h v all program c.requires.suits c.requires.linear c.requires.short c.levels.answers c.levels.from (omega (arith, full)) c.levels.invariant.filled
+    exits-again flow h v all program c.requires.suits c.requires.linear c.requires.short c.levels.answers c.forget_ends.new.self c.forget_ends.ensures.offsets c.forget_ends.ensures.exits
+    (filled-exits flow h v all program c.requires.suits c.requires.linear c.requires.short c.levels.answers c.levels.from (omega (arith, full)) c.levels.invariant.filled)
 
 pub returns-clause-counted : goal.returns-clause-counted
 returns-clause-counted g c =

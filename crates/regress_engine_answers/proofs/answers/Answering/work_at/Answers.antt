@@ -8,8 +8,7 @@ use Rattle.regress_engine_insn.specs.Instructions as code
 use Rattle.regress_engine_insn.specs.InsnViews.{instruction}
 use Rattle.regress_engine_runs.proofs.RunViews.{one_stands}
 use Rattle.regress_engine_search.specs.StateViews.{marks_of}
-use Rattle.regress_engine_linear.specs.LinearViews.{heights_in}
-use Rattle.regress_engine_answers.specs.AnswerTables.{exits_by, told_by}
+use Rattle.regress_engine_answers.specs.AnswerTables.{ends_by, exits_by, told_by}
 use Rattle.regress_engine_ways.proofs.Ends.{single-value}
 use Rattle.regress_engine_linear.proofs.WorkLemmas.{answer-is, body-repeated, body-stands, exits-of, exits-value-is, not-single, numbers-order, ready-there}
 use Rattle.regress_engine_answers.proofs.answers.Answering.work_at.Goals as goal
@@ -80,7 +79,7 @@ returns-in-Loop1CharBody-clause-told g c =
     let old = c.args.answers.now in
     ok-more c.work_out_single.result
     (λ told i stands a o. told single.greedy a o ∙ ap (λ b. told_by old a o || (((a == c.args.at) && (c.args.offset == o)) && b))
-    (sym (single-value (heights_in c.args.table.now) (told_by old) program (input_of v) (direction_of c.args.forward) (map marks_of c.args.self.now.groups.now) c.args.at c.args.offset single.min_iters single.max_iters
+    (sym (single-value (told_by old) (ends_by old) program (input_of v) (direction_of c.args.forward) c.args.at c.args.offset single.min_iters single.max_iters
     single.greedy i (one_stands program (input_of v) c.args.at (code.single_loop single.min_iters single.max_iters single.greedy) i here stands)
     ∙ answer-is v program c.requires.suits c.args.at single.min_iters single.max_iters single.greedy here (told_by old) (exits_by old) (direction_of c.args.forward) c.args.offset
     (instruction c.instruction-body.result.now) c.instruction-body.ensures.stands i stands)))

@@ -8,8 +8,8 @@ use Rattle.regress_engine_linear.specs.RankTables.{ArePlaced, forward_at, height
 use Rattle.regress_engine_linear.proofs.DecidingLinear.{if-some, linear-decides}
 use Rattle.regress_engine_linear.proofs.testing.LinearTable.of.Goals as goal
 
-pub returns-then-begins : goal.returns-then-begins
-returns-then-begins c program are =
+pub returns-then-begins-clause-linear : goal.returns-then-begins-clause-linear
+returns-then-begins-clause-linear c program are =
     let t = table_of c.in-Some.flow in
     let h = heights_of c.in-Some-2.ranks in
     let count : length program.instructions ≡ length c.args.insns.now = ap length are ∙ length-map c.args.insns.now instruction in
