@@ -7,13 +7,13 @@ ghost use Rattle.regress_engine_runs.specs.Meets.{IsAtPlace};
 ghost use Rattle.regress_engine_search.specs.Search.{IsItemAtPlaces, IsMadeOf};
 ghost use Rattle.regress_engine_linear.specs.Linear.{IsLinear, too_long};
 ghost use Rattle.regress_engine_linear.specs.LinearViews.{flow_in, heights_in};
-ghost use Rattle.regress_engine_answers.specs.Searched.{IsTold};
+ghost use Rattle.regress_engine_walks.specs.Searched.{IsTold};
 
 use crate::calls::push_match;
 use crate::report::Report;
 use regress::backends::{AsciiInput, Utf8Input};
 use regress::{CompiledRegex, Match, Regex, is_ascii_text};
-use regress_engine_answers::TextTable;
+use regress_engine_walks::TextTable;
 use regress_engine_inputs::{Ucs2Input, Utf16Input};
 use regress_engine_linear::LinearTable;
 use regress_engine_search::{ExecutorInput, SearchContext};

@@ -27,7 +27,7 @@ use Rattle.regress_engine_linear.specs.Linear.{IsLinear, too_long}
 use Rattle.regress_engine_linear.specs.RankTables.{Heights, address_at, forward_at, level_at, outside_at, rank_at, ranking_of}
 use Rattle.regress_engine_linear.specs.Ranks.{IsBeyond, Lowers, Ranking}
 use Rattle.regress_engine_linear.specs.declared.levels.Level.{Level}
-use Rattle.regress_engine_linear.proofs.ExitAnswers.{after-there, body-before, body-here, further-next, next-there}
+use Rattle.regress_engine_ways.proofs.ExitAnswers.{after-there, body-before, body-here, further-next, next-there}
 use Rattle.regress_engine_linear.proofs.Running.{further-on}
 use Rattle.regress_engine_linear.proofs.WorkLemmas.{bit-elsewhere, bit-here, room-end}
 use Rattle.regress_engine_ways.specs.Ways.{AreBeyondEndedAt, AreEndedAt, AreEndedFrom, AreExitsEndedAt, AreNearEndedAt, IsEndedAt, end_at, end_beyond, end_near, in_order, preferred, preferred_of, value_at}

@@ -37,7 +37,7 @@ use Rattle.regress_engine_answers.specs.declared.answers.Answers.{Answers}
 use Rattle.regress_engine_linear.proofs.AnswerLemmas.{answers-by, look-answers}
 use Rattle.regress_engine_linear.proofs.Beyond.{leads-beyond}
 use Rattle.regress_engine_linear.proofs.EndsBeyond.{atomic-lower}
-use Rattle.regress_engine_linear.proofs.ExitAnswers.{exits-told}
+use Rattle.regress_engine_ways.proofs.ExitAnswers.{exits-told}
 use Rattle.regress_engine_linear.proofs.Formulas.{answers-are}
 use Rattle.regress_engine_linear.proofs.Running.{further-on}
 use Rattle.regress_engine_linear.proofs.Within.{each-lies}

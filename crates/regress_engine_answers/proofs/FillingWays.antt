@@ -15,7 +15,7 @@ use Rattle.regress_engine_answers.specs.Filled.{AreRight, IsFilledTo, way_of}
 use Rattle.regress_engine_linear.specs.Linear.{IsLinear, too_long}
 use Rattle.regress_engine_linear.specs.RankTables.{ArePlaced, Heights, address_at, ranking_of}
 use Rattle.regress_engine_answers.specs.declared.answers.Answers.{Answers}
-use Rattle.regress_engine_answers.specs.Walked.{AreExitsKnown}
+use Rattle.regress_engine_answers.specs.Filled.{AreExitsKnown}
 
 -- what is so where a call succeeds, from two things that are
 pub ok-two : {T E P Q R : Type 0} (r : Result T E) → (P → Q → R) → OnOk r P → OnOk r Q → OnOk r R

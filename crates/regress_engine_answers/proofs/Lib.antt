@@ -3,6 +3,3 @@ pub mod FillLemmas
 pub mod EndKept
 pub mod EndLemmas
 pub mod FillingWays
-pub mod MayWalk
-pub mod Walks
-pub mod Untold

@@ -64,3 +64,7 @@ module _ (flow : Flow) (h : Heights) (program : Program) (v : View) where
   -- all that a table tells is so
   abbrev pub AreRight : Answers → Type 0
   AreRight a = (at q : ℕ) → at < length h.ranks → q ≤ length v.units → IsRight a at q
+
+-- What is told of the exits of all one-character loops is so.
+abbrev pub AreExitsKnown : Flow → Heights → Program → View → Answers → Type 0
+AreExitsKnown flow h program v a = (at o : ℕ) → at < length h.ranks → o ≤ length v.units → IsExitRight flow h program v a at o

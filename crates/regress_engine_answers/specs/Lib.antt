@@ -1,5 +1,4 @@
 pub mod AnswerTables
 pub mod Filled
-pub mod Walked
-pub mod Searched
+pub mod Filling
 pub mod Ended

@@ -9,7 +9,7 @@ ghost use Rattle.regress_engine_runs.specs.Runs.{advance, after_times, counted, 
 ghost use Rattle.regress_engine_search.specs.Search.{Suits};
 ghost use Rattle.regress_engine_linear.specs.Answered.{again, behind, exits_at, exits_value_at, is_single, one_at, one_beyond, AreExitsOf, AreExitsRight, IsRepeated};
 ghost use Rattle.regress_engine_answers.specs.AnswerTables.{ends_by, exits_by, in_set, told_by};
-ghost use Rattle.regress_engine_answers.specs.Searched.{IsReadyIn};
+ghost use Rattle.regress_engine_answers.specs.Filling.{IsReadyIn};
 ghost use Rattle.regress_engine_ways.specs.Ways.{told_if, value_at};
 
 use crate::rows::Rows;
@@ -78,7 +78,11 @@ impl Answers {
 
     /// Whether it is told that one of the exits of the one-character loop at an address has an answer, behind at least one more character
     /// from an offset on.
-    fn are_exits_told(&self, at: usize, offset: usize) -> bool
+    ///
+    /// ```rust
+    /// let has = answers.are_exits_told(0, 3);
+    /// ```
+    pub fn are_exits_told(&self, at: usize, offset: usize) -> bool
         ensures { result ≡ exits_by self.now at offset }
     {
         at < self.exits.len() && self.exits[at].contains(offset)
@@ -135,16 +139,20 @@ impl Answers {
 #[derive(Debug, Drop)]
 pub struct Answering<'a, Input: Shown> {
     /// The program.
-    pub(crate) program: &'a CompiledRegex,
+    pub program: &'a CompiledRegex,
     /// The text.
-    pub(crate) input: Input,
+    pub input: Input,
     /// As many groups as the program has, none of which took anything.
-    pub(crate) groups: &'a [GroupData<usize>],
+    pub groups: &'a [GroupData<usize>],
 }
 
 impl<'a, Input: ExecutorInput> Answering<'a, Input> {
     /// The instruction at an address.
-    pub(crate) fn instruction(&self, at: usize) -> &Insn
+    ///
+    /// ```rust
+    /// let insn = answering.instruction(0);
+    /// ```
+    pub fn instruction(&self, at: usize) -> &Insn
         requires { (i : Instruction) × Stands (program_of self.now.program.now) at i }
         ensures stands { Stands (program_of self.now.program.now) at (instruction result.now) }
         ensures room { at + 1 < 2 ^ 64 }

@@ -11,7 +11,7 @@ ghost use Rattle.regress_engine_search.specs.StateViews.{marks_of};
 ghost use Rattle.regress_engine_linear.specs.Answered.{is_single, IsRepeated};
 ghost use Rattle.regress_engine_answers.specs.AnswerTables.{ends_by, exit_ends_by, told_by};
 ghost use Rattle.regress_engine_answers.specs.Ended.{IsEndKept, single_beyond, single_end};
-ghost use Rattle.regress_engine_answers.specs.Searched.{IsReadyIn};
+ghost use Rattle.regress_engine_answers.specs.Filling.{IsReadyIn};
 ghost use Rattle.regress_engine_ways.specs.Ways.{end_at, end_beyond, end_near, preferred, preferred_of};
 
 use crate::answers::{Answering, Answers};

@@ -6,10 +6,9 @@ ghost use Rattle.regress_engine_insn.specs.InsnViews.{instruction};
 ghost use Rattle.regress_engine_runs.specs.Meets.{IsAtPlace, reads_character};
 ghost use Rattle.regress_engine_search.specs.Search.{Suits};
 ghost use Rattle.regress_engine_answers.specs.AnswerTables.{IsSized, exits_by, in_set, told_by};
-ghost use Rattle.regress_engine_answers.specs.Filled.{AreRight};
+ghost use Rattle.regress_engine_answers.specs.Filled.{AreExitsKnown, AreRight};
 ghost use Rattle.regress_engine_search.specs.Places.{IsAwaited, IsBehind, IsNextPlace};
-ghost use Rattle.regress_engine_answers.specs.Searched.{IsFilledIn, IsFilledToIn, fill_steps};
-ghost use Rattle.regress_engine_answers.specs.Walked.{AreExitsKnown};
+ghost use Rattle.regress_engine_answers.specs.Filling.{IsFilledIn, IsFilledToIn, fill_steps};
 ghost use Rattle.regress_engine_linear.specs.Levels.{IsLevel};
 ghost use Rattle.regress_engine_linear.specs.Linear.{IsLinear, too_long};
 ghost use Rattle.regress_engine_linear.specs.LinearViews.{flow_in, heights_in};
@@ -227,7 +226,13 @@ impl<'a, Input: ExecutorInput> Answering<'a, Input> {
 
     /// Works out for each address and each offset of the text whether runs from there have an answer, the deepest level first. It counts a
     /// step for each. It errs where memory is refused.
-    pub(crate) fn answers(
+    ///
+    /// Asks that the program is linear, as its table says, and that the text has no more units than there may be.
+    ///
+    /// ```rust
+    /// let answers = answering.answers(alloc, &table, &mut steps)?;
+    /// ```
+    pub fn answers(
         &self,
         alloc: Global,
         table: &LinearTable,

@@ -4,12 +4,8 @@
 mod answers;
 mod ends;
 mod filling;
-mod places;
 mod rows;
-mod searching;
-mod walker;
-mod walking;
+mod ways;
 
 pub use answers::{Answering, Answers};
-pub use places::next_place;
-pub use searching::TextTable;
+pub use ways::station_at;

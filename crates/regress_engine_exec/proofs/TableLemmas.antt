@@ -14,8 +14,9 @@ use Rattle.regress_engine_search.specs.Search.{IsItemAtPlaces}
 use Rattle.regress_engine_search.proofs.PlaceLemmas.{moves}
 use Rattle.regress_engine_linear.specs.LinearViews.{heights_in}
 use Rattle.regress_engine_linear.specs.declared.testing.LinearTable.{LinearTable}
-use Rattle.regress_engine_answers.specs.Searched.{StepsTo, fill_steps}
-use Rattle.regress_engine_answers.specs.declared.searching.TextTable.{TextTable}
+use Rattle.regress_engine_answers.specs.Filling.{fill_steps}
+use Rattle.regress_engine_walks.specs.Searched.{StepsTo}
+use Rattle.regress_engine_walks.specs.declared.searching.TextTable.{TextTable}
 use Rattle.regress_engine_exec.specs.Turned.{CountsTold, UnlessErr, ahead, filled_by, most_walked, told_steps}
 use Rattle.regress_engine_exec.specs.declared.turning.Turning.{Turning}
 

@@ -30,8 +30,8 @@ use Rattle.regress_engine_linear.specs.Answered.{Ends}
 use Rattle.regress_engine_linear.specs.declared.testing.LinearTable.{LinearTable}
 use Rattle.regress_engine_answers.specs.AnswerTables.{told_by}
 use Rattle.regress_engine_answers.specs.Filled.{way_of}
-use Rattle.regress_engine_answers.specs.Searched.{IsTold}
-use Rattle.regress_engine_answers.specs.declared.searching.TextTable.{TextTable}
+use Rattle.regress_engine_walks.specs.Searched.{IsTold}
+use Rattle.regress_engine_walks.specs.declared.searching.TextTable.{TextTable}
 use Rattle.regress_engine_attempt.specs.Counting.{most_counted, CountsRun}
 use Rattle.regress_engine_attempt.proofs.CountLemmas.{spends-none, spends-more}
 use Rattle.regress_engine_exec.specs.Counting.{CountsSearch}

@@ -6,8 +6,9 @@ use Rattle.regress_engine_insn.specs.Instructions.{Program}
 use Rattle.regress_engine_linear.specs.Linear.{IsLinear, too_long}
 use Rattle.regress_engine_linear.specs.LinearViews.{flow_in, heights_in}
 use Rattle.regress_engine_linear.specs.declared.testing.LinearTable.{LinearTable}
-use Rattle.regress_engine_answers.specs.Searched.{IsTold, fill_steps}
-use Rattle.regress_engine_answers.specs.declared.searching.TextTable.{TextTable}
+use Rattle.regress_engine_answers.specs.Filling.{fill_steps}
+use Rattle.regress_engine_walks.specs.Searched.{IsTold}
+use Rattle.regress_engine_walks.specs.declared.searching.TextTable.{TextTable}
 use Rattle.regress_engine_exec.specs.declared.turning.Turning.{Turning}
 use Rattle.regress_engine_exec.specs.declared.tables.Tables.{Tables}
 

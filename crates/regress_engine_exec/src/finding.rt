@@ -13,7 +13,7 @@ ghost use Rattle.regress_engine_exec.specs.Searches.{groups_of};
 
 use crate::scratch::Scratch;
 use regress_engine_advance::beside;
-use regress_engine_answers::next_place;
+use regress_engine_walks::next_place;
 use regress_engine_attempt::{Attempt, Remembered};
 use regress_engine_leading::{Beginning, known_at};
 use regress_engine_search::{Budget, Ended, ExecutorInput, SearchContext};

@@ -5,11 +5,11 @@ ghost use Rattle.regress_engine_input.specs.Views.{reading_of};
 ghost use Rattle.regress_engine_runs.specs.Meets.{IsAtPlace};
 ghost use Rattle.regress_engine_search.specs.Contexts.{IsAnswerIn, IsFoundIn};
 ghost use Rattle.regress_engine_search.specs.StateViews.{marks_of};
-ghost use Rattle.regress_engine_answers.specs.Searched.{from_start};
+ghost use Rattle.regress_engine_walks.specs.Searched.{from_start};
 ghost use Rattle.regress_engine_exec.specs.Turned.{CountsTold, Turns, enough_by, fits_told, linear_steps, may_turn, told_steps};
 
 use crate::budget::SearchBudget;
-use regress_engine_answers::TextTable;
+use regress_engine_walks::TextTable;
 use regress_engine_linear::LinearTable;
 use regress_engine_search::{ExecutorInput, SearchContext};
 use regress_front_core::GroupData;

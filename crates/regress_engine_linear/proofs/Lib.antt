@@ -9,10 +9,8 @@ pub mod AnswerLemmas
 pub mod Formulas
 pub mod Within
 pub mod DecidingLinear
-pub mod ExitAnswers
 pub mod PassageLemmas
 pub mod WorkLemmas
-pub mod ExitWays
 pub mod LevelLemmas
 pub mod BehindLemmas
 pub mod InsideLemmas

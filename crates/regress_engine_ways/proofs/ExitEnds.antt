@@ -23,8 +23,8 @@ use Rattle.regress_engine_linear.specs.Answered.{IsRepeated, ReadsAlong}
 use Rattle.regress_engine_linear.specs.RankTables.{Heights, ranking_of}
 use Rattle.regress_engine_linear.specs.Ranks.{AreRunning}
 use Rattle.regress_engine_linear.proofs.AnswerLemmas.{reads-on, run-onward}
-use Rattle.regress_engine_linear.proofs.ExitAnswers.{after-there, body-before, body-here}
-use Rattle.regress_engine_linear.proofs.ExitWays.{ones-last, ones-more}
+use Rattle.regress_engine_ways.proofs.ExitAnswers.{after-there, body-before, body-here}
+use Rattle.regress_engine_ways.proofs.ExitWays.{ones-last, ones-more}
 use Rattle.regress_engine_linear.proofs.Running.{running-step}
 use Rattle.regress_engine_ways.specs.Ways.{AreBeyondEndedAt, AreEndedAt, AreEndedFrom, AreExitsEndedAt, AreNearEndedAt, IsEndedAt, MayPass, in_order, preferred, preferred_of}
 

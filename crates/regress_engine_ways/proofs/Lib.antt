@@ -1,3 +1,5 @@
+pub mod ExitWays
+pub mod ExitAnswers
 pub mod OnWay
 pub mod Through
 pub mod Staying

@@ -35,7 +35,7 @@ use Rattle.regress_engine_linear.specs.Answered.{Ends, IsAnswered, ReadsAlong, e
 use Rattle.regress_engine_linear.specs.Linear.{IsLinear, too_long}
 use Rattle.regress_engine_ways.specs.Ways.{IsOnWay, MayPass, again_at, either_of, first_of, is_entered, led, marked, station_at, written_by}
 use Rattle.regress_engine_ways.specs.declared.station.Station.{Station}
-use Rattle.regress_engine_linear.proofs.ExitWays.{each-both, exit-is}
+use Rattle.regress_engine_ways.proofs.ExitWays.{each-both, exit-is}
 use Rattle.regress_engine_linear.proofs.Alike.{busy}
 use Rattle.regress_engine_linear.proofs.AnswerLemmas.{reads-on, run-onward}
 use Rattle.regress_engine_linear.proofs.Beyond.{each-weaker, leads-beyond}

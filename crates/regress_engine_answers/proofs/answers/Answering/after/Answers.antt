@@ -5,7 +5,7 @@ use Rattle.regress_engine_input.specs.Views.{direction_of, input_of}
 use Rattle.regress_engine_insn.specs.InsnViews.{instruction}
 use Rattle.regress_engine_search.specs.StateViews.{marks_of}
 use Rattle.regress_engine_memory.proofs.Taking.{taking-unreferring}
-use Rattle.regress_engine_linear.proofs.ExitAnswers.{after-free, body-before, body-here}
+use Rattle.regress_engine_ways.proofs.ExitAnswers.{after-free, body-before, body-here}
 use Rattle.regress_engine_answers.proofs.answers.Answering.after.Goals as goal
 
 pub after_times-requires-clause-body : goal.after_times-requires-clause-body

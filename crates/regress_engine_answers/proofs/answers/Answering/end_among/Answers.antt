@@ -3,7 +3,7 @@ use Rattle.regress_engine_code.specs.Standing.{program_of}
 use Rattle.regress_engine_input.specs.Views.{direction_of, input_of}
 use Rattle.regress_engine_insn.specs.InsnViews.{instruction}
 use Rattle.regress_engine_runs.specs.Runs.{one_by_one}
-use Rattle.regress_engine_linear.proofs.ExitWays.{ones-last, ones-more}
+use Rattle.regress_engine_ways.proofs.ExitWays.{ones-last, ones-more}
 use Rattle.regress_engine_ways.specs.Ways.{preferred, preferred_of}
 use Rattle.regress_engine_answers.specs.AnswerTables.{ends_by}
 use Rattle.regress_engine_answers.proofs.RowLemmas.{none-preferred, preferred-none, preferred-on}

@@ -3,7 +3,7 @@ use Rattle.regress_engine_code.specs.Standing.{program_of}
 use Rattle.regress_engine_input.specs.Views.{direction_of}
 use Rattle.regress_engine_insn.specs.InsnViews.{instruction}
 use Rattle.regress_engine_answers.specs.AnswerTables.{exits_by, told_by}
-use Rattle.regress_engine_linear.proofs.ExitAnswers.{single-all, single-some}
+use Rattle.regress_engine_ways.proofs.ExitAnswers.{single-all, single-some}
 use Rattle.regress_engine_answers.proofs.answers.Answering.has_single.Goals as goal
 
 pub returns-then-left-text_len : goal.returns-then-left-text_len

@@ -3,7 +3,7 @@ use Rattle.regress_engine_code.specs.Standing.{program_of}
 use Rattle.regress_engine_input.specs.Views.{direction_of, input_of}
 use Rattle.regress_engine_insn.specs.InsnViews.{instruction}
 use Rattle.regress_engine_answers.specs.AnswerTables.{told_by}
-use Rattle.regress_engine_linear.proofs.ExitAnswers.{one-all, one-goes, one-stops, one-told}
+use Rattle.regress_engine_ways.proofs.ExitAnswers.{one-all, one-goes, one-stops, one-told}
 use Rattle.regress_engine_answers.proofs.answers.Answering.is_exit_told.Goals as goal
 
 pub returns-then-are_told : goal.returns-then-are_told

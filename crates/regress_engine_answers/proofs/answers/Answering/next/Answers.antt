@@ -8,7 +8,7 @@ use Rattle.regress_engine_search.specs.StateViews.{marks_of}
 use Rattle.regress_engine_search.proofs.ReadyLemmas.{body-asked}
 use Rattle.regress_engine_memory.proofs.Taking.{taking-unreferring}
 use Rattle.regress_engine_memory.proofs.Unreferring.{advance-any}
-use Rattle.regress_engine_linear.proofs.ExitAnswers.{body-before, body-here, next-there}
+use Rattle.regress_engine_ways.proofs.ExitAnswers.{body-before, body-here, next-there}
 use Rattle.regress_engine_answers.proofs.answers.Answering.next.Goals as goal
 
 pub advance-requires-clause-ready : goal.advance-requires-clause-ready

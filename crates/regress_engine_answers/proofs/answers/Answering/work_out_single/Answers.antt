@@ -4,7 +4,7 @@ use Rattle.regress_engine_input.specs.Views.{direction_of}
 use Rattle.regress_engine_insn.specs.InsnViews.{instruction}
 use Rattle.regress_engine_linear.specs.Answered.{exits_at}
 use Rattle.regress_engine_answers.specs.AnswerTables.{exits_by, told_by}
-use Rattle.regress_engine_linear.proofs.ExitAnswers.{exits-here}
+use Rattle.regress_engine_ways.proofs.ExitAnswers.{exits-here}
 use Rattle.regress_engine_answers.proofs.answers.Answering.work_out_single.Goals as goal
 
 pub has_single-has-requires-clause-here : goal.has_single-has-requires-clause-here

@@ -1,5 +1,5 @@
 use Rattle.std.proofs.Common.{sym}
-use Rattle.regress_engine_answers.specs.Searched.{from_start}
+use Rattle.regress_engine_walks.specs.Searched.{from_start}
 use Rattle.regress_engine_exec.proofs.TableLemmas.{counts-told, if-ok}
 use Rattle.regress_engine_exec.proofs.turning.Turning.run_from.Goals as goal
 

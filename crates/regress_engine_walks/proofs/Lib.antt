@@ -1,0 +1,3 @@
+pub mod MayWalk
+pub mod Walks
+pub mod Untold
