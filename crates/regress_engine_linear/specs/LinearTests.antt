@@ -1,11 +1,11 @@
 -- The test that a program is linear.
-use Rattle.std.specs.Prelude.{ℕ, suc, ◌+◌, ◌-◌, ◌&&◌, ◌||◌, ◌==◌, Bool, true, false, length, nat_le, nat_lt}
+use Rattle.std.specs.Prelude.{ℕ, suc, ◌+◌, ◌-◌, ◌&&◌, ◌||◌, ◌==◌, if◌then◌else◌, Bool, true, false, length, nat_le, nat_lt}
 use Rattle.regress_front_nodes.specs.Trees.{lookaround, atomic}
 use Rattle.regress_engine_insn.specs.Instructions.{Instruction, Program}
 use Rattle.regress_engine_insn.specs.Instructions as code
 use Rattle.regress_engine_memory.specs.Deciding.{Table, calm_at, live_at}
 use Rattle.regress_engine_memory.specs.Passing.{all_pass}
-use Rattle.regress_engine_linear.specs.Linear.{few, is_visited_once, leads_through, stays_inside, too_long}
+use Rattle.regress_engine_linear.specs.Linear.{few, is_visited_once, leads_through, leaves_none, loop_sizes, repeats_inside, stays_inside, too_long}
 use Rattle.regress_engine_linear.specs.RankTables.{Heights, forward_at, rank_at}
 
 -- a greatest number is one that no text can reach
@@ -46,10 +46,24 @@ are_allowed program loops singles at first last continuation =
 abbrev pub have_ranks : Heights → (at continuation : ℕ) → Bool
 have_ranks h at continuation = nat_le (rank_at h continuation + (continuation - at)) (rank_at h at)
 
+module _ (program : Program) (at continuation : ℕ) where
+  -- an instruction inside of contents is no lookaround that leaves groups
+  abbrev pub is_alone : (b : ℕ) → Instruction → Bool
+  is_alone b i = nat_le b at || (nat_le continuation b || leaves_none i)
+
+  -- contents may have loops
+  abbrev pub may_loop : (first last : ℕ) → Bool
+  may_loop first last = is_visited_once program at && (are_allowed program true false at first last continuation && all_pass is_alone 0 program.instructions)
+
 module _ (h : Heights) (program : Program) where
   -- what a lookaround or an atomic group leaves is as it has to be
   abbrev pub leaves_groups : (at : ℕ) → Instruction → Bool
   leaves_groups at (code.submatch (lookaround false backward) first last continuation) = nat_le last first
-      || (are_allowed program false (is_visited_once program at) at first last continuation && have_ranks h at continuation)
+      || (if repeats_inside program at continuation then may_loop program at continuation first last
+          else (are_allowed program false (is_visited_once program at) at first last continuation && have_ranks h at continuation))
   leaves_groups at (code.submatch atomic first last continuation) = are_allowed program true false at first last continuation
   leaves_groups at i = true
+
+  -- lookarounds whose contents have loops, and which leave groups, are together no longer than the program
+  abbrev pub are_short : Bool
+  are_short = nat_le (loop_sizes program 0 program.instructions) (length program.instructions)
