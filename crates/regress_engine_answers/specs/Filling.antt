@@ -12,9 +12,9 @@ use Rattle.regress_engine_answers.specs.Filled.{IsFilled, IsFilledTo}
 use Rattle.regress_engine_answers.specs.declared.answers.Answering.{Answering}
 use Rattle.regress_engine_answers.specs.declared.answers.Answers.{Answers}
 
--- to work out what is told of a text takes at most two steps for each address at each offset
+-- to work out what is told of a text takes at most one step for each address at each offset
 abbrev pub fill_steps : LinearTable → View → ℕ
-fill_steps table v = 2 * (suc (length v.units) * length (heights_in table).order)
+fill_steps table v = suc (length v.units) * length (heights_in table).order
 
 -- what is told while a table is filled is so, by the ranks of its program, in the text that is worked out
 abbrev pub IsFilledIn : {I : Type 0} → (I → View) → Answering I → LinearTable → Answers → Level → (index offset : ℕ) → Type 0

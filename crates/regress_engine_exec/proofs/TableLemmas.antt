@@ -1,7 +1,7 @@
 -- How many steps an iteration takes to walk along its matches.
 use Rattle.std.specs.Prelude.{IfOk, IfSome, OnOk, Result, Ok, Err, length, option_map}
 use Rattle.std.specs.Result.{result_transpose}
-use Rattle.std.proofs.Common.{◌≡◌, ◌==◌, ℕ, suc, ◌+◌, ◌-◌, ◌*◌, ◌<◌, ◌≤◌, ◌⊎◌, inl, inr, Bool, true, false, if◌then◌else◌, Option, Some, None, refl, sym, ap, ◌∙◌, subst, arith}
+use Rattle.std.proofs.Common.{◌≡◌, ◌==◌, ℕ, zero, suc, ◌+◌, ◌-◌, ◌*◌, ◌<◌, ◌≤◌, ◌⊎◌, inl, inr, Bool, true, false, if◌then◌else◌, Option, Some, None, refl, sym, ap, ◌∙◌, subst, arith}
 use Rattle.std.proofs.Math.Nat.{mul-le-mul_left}
 use Rattle.std.proofs.lemmas.Bool.{cases_lt, ne_eqb}
 use Rattle.regress_meaning.specs.Meaning.{Forward}
@@ -15,9 +15,9 @@ use Rattle.regress_engine_search.proofs.PlaceLemmas.{moves}
 use Rattle.regress_engine_linear.specs.LinearViews.{heights_in}
 use Rattle.regress_engine_linear.specs.declared.testing.LinearTable.{LinearTable}
 use Rattle.regress_engine_answers.specs.Filling.{fill_steps}
-use Rattle.regress_engine_walks.specs.Searched.{StepsTo}
+use Rattle.regress_engine_walks.specs.Searched.{StepsTo, start_steps}
 use Rattle.regress_engine_walks.specs.declared.searching.TextTable.{TextTable}
-use Rattle.regress_engine_exec.specs.Turned.{CountsTold, UnlessErr, ahead, filled_by, most_walked, told_steps}
+use Rattle.regress_engine_exec.specs.Turned.{CountsTold, UnlessErr, ahead, filled_by, most_walked, told_steps, walk_steps}
 use Rattle.regress_engine_exec.specs.declared.turning.Turning.{Turning}
 
 -- what follows for what was answered
@@ -29,12 +29,27 @@ if-ok (Err e) so known = tt
 scaled : (w x y n : ℕ) → w + 2 * x ≤ 2 * y → w * n + 2 * (x * n) ≤ 2 * (y * n)
 scaled w x y n low = let more = mul-le-mul_left n low in omega (arith, more)
 
-once : (w y n : ℕ) → w ≤ 2 * y → w * n + 0 ≤ 2 * (y * n)
-once w y n low = let more = mul-le-mul_left n low in omega (arith, more)
+alone : (w y n : ℕ) → w ≤ 2 * y → w * n ≤ 2 * (y * n)
+alone w y n low = let more = mul-le-mul_left n low in omega (arith, more)
+
+-- Steps that are taken from the begin of the text are left before, and not behind.
+at-start : (table : LinearTable) (units at start : ℕ) → at ≤ start → start_steps table units start ≤ start_steps table units at
+at-start table units zero zero low = omega arith
+at-start table units zero (suc start) low = omega arith
+at-start table units (suc at) zero low = absurd (omega (arith, low))
+at-start table units (suc at) (suc start) low = omega arith
+
+none-behind : (table : LinearTable) (units q : ℕ) → 0 < q → start_steps table units q ≡ 0
+none-behind table units zero past = absurd (omega (arith, past))
+none-behind table units (suc q) past = refl
+
+few-at-start : (table : LinearTable) (units at : ℕ) → start_steps table units at ≤ suc units * length (heights_in table).order
+few-at-start table units zero = omega arith
+few-at-start table units (suc at) = omega arith
 
 -- what was counted on a way is no more than a walk along it takes
-walked : (before after n x y z : ℕ) → after + x * n ≤ before + y * n + n → y ≤ x + z → after ≤ before + suc z * n
-walked before after n x y z low far = let more = mul-le-mul_left n far in omega (arith, low, more)
+walked : (before after n x y z more : ℕ) → after + x * n ≤ before + y * n + n + more → y ≤ x + z → after ≤ before + (suc z * n + more)
+walked before after n x y z most low far = let more = mul-le-mul_left n far in omega (arith, low, more)
 
 module _ (v : View) (old mid : Turning) (told : TextTable) (steps : ℕ) where
   -- a search by tables took no more steps than its walk
@@ -49,9 +64,10 @@ module _ (v : View) (old mid : Turning) (told : TextTable) (steps : ℕ) where
       filled : mid.steps + 0 ≤ told_steps v old
       filled = subst (λ o. mid.steps + elim o [ None ↦ fill_steps mid.table.now v | Some x ↦ 0 ] ≤ told_steps v old) is low
 
-      walk : steps ≤ mid.steps + suc (end - start) * length (heights_in old.table.now).order
-      walk = subst (λ t. steps ≤ mid.steps + suc (end - start) * length (heights_in t).order) same
-          (walked mid.steps steps (length (heights_in mid.table.now).order) (length v.units - end) (length v.units - start) (end - start) counted (omega arith))
+      walk : steps ≤ mid.steps + walk_steps old.table.now (length v.units) (Some (start, end))
+      walk = subst (λ t. steps ≤ mid.steps + walk_steps t (length v.units) (Some (start, end))) same
+          (walked mid.steps steps (length (heights_in mid.table.now).order) (length v.units - end) (length v.units - start) (end - start)
+          (start_steps mid.table.now (length v.units) start) counted (omega arith))
 
 -- to make the table of a text, and to walk along all its matches by it, takes no more steps than are enough for the searches before
 pub enough-by-table : (table : LinearTable) (v : View) (at : ℕ)
@@ -63,10 +79,11 @@ enough-by-table table v at =
     let less : suc units ≤ units + 64 = omega arith in
     let walks : n * (suc units - at) ≤ n * (units + 64) = mul-le-mul_left n fewer in
     let fills : n * suc units ≤ n * (units + 64) = mul-le-mul_left n less in
-    omega (arith, walks, fills)
+    let begin = few-at-start table units at in
+    omega (arith, walks, fills, begin)
 
 -- where nothing is found nothing is ahead
-pub none-ahead : (table : Option LinearTable) (units at before after : ℕ) → after ≤ before + most_walked table None → after + ahead table units None ≤ before + ahead table units (Some at)
+pub none-ahead : (table : Option LinearTable) (units at before after : ℕ) → after ≤ before + most_walked table units None → after + ahead table units None ≤ before + ahead table units (Some at)
 none-ahead None units at before after low = omega (arith, low)
 none-ahead (Some table) units at before after low = omega (arith, low)
 
@@ -94,11 +111,16 @@ module _ (program : Program) (v : View) (i : Item) (ordered : i.start ≤ i.end)
 
   -- From a position on a walk along the item that is found, and what is still ahead behind it, is no more than what was ahead.
   pub walk-ahead : (table : Option LinearTable) (units at : ℕ) (next : Option ℕ) → at ≤ i.start → i.end ≤ units → next ≡ goes_on program (input_of v) i
-      → most_walked table (Some (i.start, i.end)) + ahead table units next ≤ ahead table units (Some at)
+      → most_walked table units (Some (i.start, i.end)) + ahead table units next ≤ ahead table units (Some at)
   walk-ahead None units at next from inside goes = omega arith
   walk-ahead (Some table) units at None from inside goes =
-      once (suc (i.end - i.start)) (suc units - at) (length (heights_in table).order) (omega (arith, from, inside, ordered))
+      let walk = alone (suc (i.end - i.start)) (suc units - at) (length (heights_in table).order) (omega (arith, from, inside, ordered)) in
+      let begin = at-start table units at i.start from in
+      omega (arith, walk, begin)
   walk-ahead (Some table) units at (Some q) from inside goes =
       let past = goes_on-past program (input_of v) (moves v) i ordered q (sym goes) in
       let end = goes_on-end q (sym goes) in
-      scaled (suc (i.end - i.start)) (suc units - q) (suc units - at) (length (heights_in table).order) (omega (arith, from, inside, ordered, past, end))
+      let walk = scaled (suc (i.end - i.start)) (suc units - q) (suc units - at) (length (heights_in table).order) (omega (arith, from, inside, ordered, past, end)) in
+      let begin = at-start table units at i.start from in
+      let none = none-behind table units q (omega (arith, past)) in
+      omega (arith, walk, begin, none)

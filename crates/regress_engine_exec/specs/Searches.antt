@@ -1,5 +1,5 @@
 -- What an executor searches, and what it holds.
-use Rattle.std.specs.Prelude.{◌≡◌, ℕ, Bool, List, Option, None, Some, map, is_some, option_map}
+use Rattle.std.specs.Prelude.{◌≡◌, ℕ, Bool, List, Option, None, Some, length, map, is_some, option_map}
 use Rattle.regress_engine_input.specs.Views.{View}
 use Rattle.regress_engine_insn.specs.Instructions.{Program}
 use Rattle.regress_engine_code.specs.Standing.{program_of}
@@ -9,7 +9,7 @@ use Rattle.regress_engine_search.specs.StateViews.{marks_of}
 use Rattle.regress_engine_search.specs.declared.budget.StepsLeft.{StepsLeft}
 use Rattle.regress_engine_linear.specs.declared.testing.LinearTable.{LinearTable}
 use Rattle.regress_engine_exec.specs.Counting.{CountsRunIn, CountsSearchIn}
-use Rattle.regress_engine_exec.specs.Turned.{told_steps}
+use Rattle.regress_engine_exec.specs.Turned.{most_walked, told_steps}
 use Rattle.regress_engine_exec.specs.declared.scratch.Scratch.{Scratch}
 use Rattle.regress_engine_exec.specs.declared.search.Backtracker.{Backtracker}
 
@@ -48,6 +48,10 @@ table_in e = option_map (λ t. t.table.now) e.turning
 -- how many steps its searches took by tables, with those that it will take to make that of the text, where it is not there yet
 abbrev pub tabled_in : {I B : Type 0} {g : _} → Backtracker I B g → ℕ
 tabled_in {g = g} e = elim e.turning [ None ↦ 0 | Some t ↦ told_steps (g.shown e.context.input) t ]
+
+-- how many it takes at most to walk along what one search finds
+abbrev pub walked_in : {I B : Type 0} {g : _} → Backtracker I B g → Option (ℕ × ℕ) → ℕ
+walked_in {g = g} e found = most_walked (table_in e) (length (g.shown e.context.input).units) found
 
 -- how many of these were taken
 abbrev pub table_steps_of : {I B : Type 0} {g : _} → Backtracker I B g → ℕ

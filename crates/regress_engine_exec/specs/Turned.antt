@@ -7,7 +7,7 @@ use Rattle.regress_engine_linear.specs.Linear.{IsLinear, too_long}
 use Rattle.regress_engine_linear.specs.LinearViews.{flow_in, heights_in}
 use Rattle.regress_engine_linear.specs.declared.testing.LinearTable.{LinearTable}
 use Rattle.regress_engine_answers.specs.Filling.{fill_steps}
-use Rattle.regress_engine_walks.specs.Searched.{IsTold}
+use Rattle.regress_engine_walks.specs.Searched.{IsTold, start_steps}
 use Rattle.regress_engine_walks.specs.declared.searching.TextTable.{TextTable}
 use Rattle.regress_engine_exec.specs.declared.turning.Turning.{Turning}
 use Rattle.regress_engine_exec.specs.declared.tables.Tables.{Tables}
@@ -76,19 +76,20 @@ pub record TurnsTo (program : Program) (v : View) (turning : Option Turning) (ta
 abbrev pub told_steps : View → Turning → ℕ
 told_steps v t = t.steps + elim t.told [ None ↦ fill_steps t.table.now v | Some told ↦ 0 ]
 
--- to walk from where a match begins to where it ends takes a step for each address at each offset at most; where there is none, none
-abbrev pub walk_steps : LinearTable → Option (ℕ × ℕ) → ℕ
-walk_steps table None = 0
-walk_steps table (Some (start, end)) = suc (end - start) * length (heights_in table).order
+-- to walk from where a match begins to where it ends takes a step for each address at each offset at most, and from the begin of a text of so
+-- many units one for each at each of the text; where there is none, none
+abbrev pub walk_steps : LinearTable → (units : ℕ) → Option (ℕ × ℕ) → ℕ
+walk_steps table units None = 0
+walk_steps table units (Some (start, end)) = suc (end - start) * length (heights_in table).order + start_steps table units start
 
 -- a search by tables took no more steps than its walk
 abbrev pub CountsTold : View → (before after : Turning) → Option (ℕ × ℕ) → Type 0
-CountsTold v before after found = told_steps v after ≤ told_steps v before + walk_steps before.table.now found
+CountsTold v before after found = told_steps v after ≤ told_steps v before + walk_steps before.table.now (length v.units) found
 
 -- the same by the table of a program, if there is one
-abbrev pub most_walked : Option LinearTable → Option (ℕ × ℕ) → ℕ
-most_walked None found = 0
-most_walked (Some table) found = walk_steps table found
+abbrev pub most_walked : Option LinearTable → (units : ℕ) → Option (ℕ × ℕ) → ℕ
+most_walked None units found = 0
+most_walked (Some table) units found = walk_steps table units found
 
 -- where an item begins and ends
 abbrev pub ends : Item → ℕ × ℕ
@@ -99,11 +100,12 @@ abbrev pub filled_by : Option LinearTable → View → ℕ
 filled_by None v = 0
 filled_by (Some table) v = fill_steps table v
 
--- So many steps at most are still taken to walk along the matches from a position on: two for each address at each offset.
+-- So many steps at most are still taken to walk along the matches from a position on: two for each address at each offset, and from the begin of
+-- the text one more for each.
 abbrev pub ahead : Option LinearTable → (units : ℕ) → (position : Option ℕ) → ℕ
 ahead None units position = 0
 ahead (Some table) units None = 0
-ahead (Some table) units (Some position) = 2 * ((suc units - position) * length (heights_in table).order)
+ahead (Some table) units (Some position) = 2 * ((suc units - position) * length (heights_in table).order) + start_steps table units position
 
 -- something is so behind a step of an iterator, unless that erred
 abbrev pub UnlessErr : {T E : Type 0} → Option (Result T E) → Type 0 → Type 0

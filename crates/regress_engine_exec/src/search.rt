@@ -15,7 +15,7 @@ ghost use Rattle.regress_engine_search.specs.Search.{IsMadeOf, IsItemAtPlaces, I
 ghost use Rattle.regress_engine_attempt.specs.Attempts.{Remembers, world_of};
 ghost use Rattle.regress_engine_attempt.specs.Counting.{CountsRun};
 ghost use Rattle.regress_engine_exec.specs.Counting.{CountsSearch};
-ghost use Rattle.regress_engine_exec.specs.Turned.{NeverOver, TellsLinear, TurnsTo, enough_by, ends, filled_by, may_turn, most_walked};
+ghost use Rattle.regress_engine_exec.specs.Turned.{NeverOver, TellsLinear, TurnsTo, enough_by, ends, filled_by, may_turn};
 
 use crate::budget::SearchBudget;
 use crate::finding::{first_from, run_from};
@@ -118,7 +118,7 @@ impl<'r, Input: ExecutorInput> BoundedExecutor<'r, Input> {
 }
 
 impl<'r, Input: ExecutorInput, B: SearchBudget> Backtracker<'r, Input, B> {
-    ghost use Rattle.regress_engine_exec.specs.Searches.{RunCounts, RunStops, SearchCounts, SearchStops, budget_of, groups_in, program_in, search_in, table_in, table_steps_of, tabled_in, turns_in};
+    ghost use Rattle.regress_engine_exec.specs.Searches.{RunCounts, RunStops, SearchCounts, SearchStops, budget_of, groups_in, program_in, search_in, table_in, table_steps_of, tabled_in, turns_in, walked_in};
 
     /// The executor of a program over a text, with room that other searches have left, and a budget for all its searches. If it is given the
     /// table of its program and the budget has enough steps (`linear_steps`), the budget is lowered to these, and where no more may be counted
@@ -357,7 +357,7 @@ impl<'r, Input: ExecutorInput, B: SearchBudget> Backtracker<'r, Input, B> {
         ensures kept { self.new.context ≡ self.old.context }
         ensures turns { turns_in self.new ≡ turns_in self.old }
         ensures table { table_in self.new ≡ table_in self.old }
-        ensures tabled { IfOk result (λ found. tabled_in self.new ≤ tabled_in self.old + most_walked (table_in self.old) found) }
+        ensures tabled { IfOk result (λ found. tabled_in self.new ≤ tabled_in self.old + walked_in self.old found) }
     {
         let Some(turning) = &mut self.turning else {
             return Err(self.too_many_steps());
@@ -404,7 +404,7 @@ impl<'r, Input: ExecutorInput, B: SearchBudget> Backtracker<'r, Input, B> {
         ensures kept { self.new.context ≡ self.old.context }
         ensures turns { turns_in self.new ≡ turns_in self.old }
         ensures table { table_in self.new ≡ table_in self.old }
-        ensures tabled { IfOk result (λ found. tabled_in self.new ≤ tabled_in self.old + most_walked (table_in self.old) found) }
+        ensures tabled { IfOk result (λ found. tabled_in self.new ≤ tabled_in self.old + walked_in self.old found) }
     {
         if let Some(found) = self.search_in_time(offset)? {
             return Ok(found);
@@ -480,7 +480,7 @@ impl<'r, Input: ExecutorInput, B: SearchBudget> Backtracker<'r, Input, B> {
         ensures kept { self.new.context ≡ self.old.context }
         ensures turns { turns_in self.new ≡ turns_in self.old }
         ensures table { table_in self.new ≡ table_in self.old }
-        ensures tabled { IfOk result (λ found. tabled_in self.new ≤ tabled_in self.old + most_walked (table_in self.old) (option_map (λ m. ends (item_of m)) found)) }
+        ensures tabled { IfOk result (λ found. tabled_in self.new ≤ tabled_in self.old + walked_in self.old (option_map (λ m. ends (item_of m)) found)) }
     {
         let Some((start, end)) = self.search(offset)? else {
             return Ok(None);

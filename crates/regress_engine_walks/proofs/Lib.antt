@@ -1,3 +1,6 @@
 pub mod MayWalk
+pub mod AtStart
+pub mod Sizes
+pub mod Nearer
 pub mod Walks
 pub mod Untold

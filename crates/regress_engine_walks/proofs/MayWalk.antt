@@ -65,6 +65,8 @@ pub may-walk : (flow : Flow) (h : Heights) (program : Program) (v : View) (a : A
     → AreExitsKnown flow h program v a → 0 < length program.instructions → MayWalk flow h program v a
 may-walk flow h program v a linear short right exits there =
     let count = linear.count in
+    let once = linear.once in
+    let ranks = linear.ranks in
     record {
       pass = may-pass flow h program v linear short;
       there = omega (arith, count, there);
@@ -73,4 +75,5 @@ may-walk flow h program v a linear short right exits there =
       silent = linear.silent;
       right = right;
       exits = exits;
+      once = omega (arith, once, ranks);
     }

@@ -1,9 +1,7 @@
 -- A walk along what is told to have an answer goes on, comes nearer to its end, and has its answer there.
-use Rattle.std.specs.Prelude.{not}
-use Rattle.std.proofs.Common.{◌≡◌, inl, inr, ℕ, suc, ◌+◌, ◌-◌, ◌*◌, ◌<◌, ◌≤◌, ◌&&◌, Bool, true, false, List, [], ◌∷◌, length, Option, None, Some, if◌then◌else◌, refl, sym, ap, ◌∙◌, subst, arith}
-use Rattle.std.proofs.lemmas.Bool.{and_parts, ltb-true}
-use Rattle.std.proofs.lemmas.Nat.{mul-le}
-use Rattle.std.proofs.Math.Nat.{suc-mul}
+use Rattle.std.specs.Prelude.{nat_lt, not, slice_get}
+use Rattle.std.proofs.Common.{◌≡◌, inl, inr, ℕ, suc, ◌+◌, ◌-◌, ◌*◌, ◌<◌, ◌≤◌, ◌&&◌, Bool, true, false, List, [], ◌∷◌, drop, length, Option, None, Some, if◌then◌else◌, refl, sym, ap, ◌∙◌, subst, arith}
+use Rattle.std.proofs.lemmas.Bool.{and_parts, leb-true, lt-ltb, ltb-true}
 use Rattle.regress_meaning.specs.Meaning.{Direction, Forward}
 use Rattle.regress_front_nodes.specs.Trees.{Submatch, lookaround, atomic}
 use Rattle.regress_engine_input.specs.Views.{View, AreOfKind, direction_of, input_of, reading_of}
@@ -21,14 +19,13 @@ use Rattle.regress_engine_search.specs.Search.{Suits}
 use Rattle.regress_engine_search.specs.Answering.{IsAnswer}
 use Rattle.regress_engine_search.proofs.SkipLemmas.{place-lies}
 use Rattle.regress_engine_memory.specs.Flow.{Flow}
-use Rattle.regress_engine_memory.proofs.Onward.{room-less}
 use Rattle.regress_engine_linear.specs.Ranks.{AreRunning, Inside, IsBeyond, Lowers, asked_less}
 use Rattle.regress_engine_linear.specs.RankTables.{Heights, forward_at, level_at, outside_at, rank_at, ranking_of}
 use Rattle.regress_engine_linear.specs.Answered.{Ends, IsAnswered, ReadsAlong, is_single}
 use Rattle.regress_engine_answers.specs.AnswerTables.{told_by}
-use Rattle.regress_engine_linear.specs.Linear.{AreLoopFree, HaveRanks, StayInside, is_visited_once}
+use Rattle.regress_engine_linear.specs.Linear.{AreLeaving, AreLoopFree, StayInside, is_text_start, is_visited_once, lead_back, loop_size, repeats_inside}
 use Rattle.regress_engine_ways.specs.Ways.{AreKept, IsOnWay, is_entered, led, marked, station}
-use Rattle.regress_engine_walks.specs.Walked.{AreContents, AreExitsTold, GoesOutside, IsInside, MayWalk, Walk, Walks, are_atomic, entered, far, frame, goes, inside_forward, offset_behind, returns, to_end}
+use Rattle.regress_engine_walks.specs.Walked.{AreAlone, AreContents, AreExitsTold, GoesOutside, IsInside, IsWithin, MayWalk, Walk, Walks, are_atomic, entered, far, far_inside, frame, goes, have_loops, inside_forward, offset_behind, returns, sizes_from}
 use Rattle.regress_engine_answers.specs.declared.answers.Answers.{Answers}
 use Rattle.regress_engine_walks.specs.declared.walker.Frame.{Frame}
 use Rattle.regress_engine_ways.specs.declared.station.Station.{Station}
@@ -36,11 +33,13 @@ use Rattle.regress_engine_linear.proofs.EndsBeyond.{atomic-lower}
 use Rattle.regress_engine_linear.proofs.PassageLemmas.{fits-inside, stays-fits, through-of}
 use Rattle.regress_engine_search.proofs.MixedLemmas.{mixed-length, mixed-outside, mixed-same}
 use Rattle.regress_engine_linear.proofs.FromStart.{running-first}
-use Rattle.regress_engine_linear.proofs.WorkLemmas.{rank-low}
 use Rattle.regress_engine_ways.proofs.Through.{kept-on, through}
 use Rattle.regress_engine_ways.proofs.Staying.{kept-inside, staying}
 use Rattle.regress_engine_ways.proofs.OnWay.{atomic-into, place-here, ready-here, at-goal, ends-way, look-into, on-way, told-there}
+use Rattle.regress_engine_walks.proofs.AtStart.{begins-at-start}
 use Rattle.regress_engine_walks.proofs.MayWalk.{exits-told-of}
+use Rattle.regress_engine_walks.proofs.Nearer.{Holds, free-left, loops-around, loops-le, loops-left, loops-nearer, nearer-once, outside-left, outside-nearer}
+use Rattle.regress_engine_walks.proofs.Sizes.{sizes-here, sizes-le, sizes-led}
 
 station-is : (at o : ℕ) (x : Station) → Some (station at o) ≡ Some x → station at o ≡ x
 station-is at o x e = cc
@@ -52,8 +51,8 @@ module _ (flow : Flow) (h : Heights) (v : View) (all : AreOfKind v.kind v.units)
   abbrev Goes : (start : ℕ) → List Frame → (forward : Bool) → (at o : ℕ) → List Marks → Type 0
   Goes start frames forward at o gs = Walks flow h program v start frames forward at o gs
 
-  abbrev left : List Frame → (at o : ℕ) → ℕ
-  left frames at o = far h v frames at o
+  abbrev left : (start : ℕ) → List Frame → (at o : ℕ) → ℕ
+  left start frames at o = far h program v start frames at o
 
   abbrev Anywhere : (at o : ℕ) → Type 0
   Anywhere at o = Unit {0}
@@ -75,12 +74,12 @@ module _ (flow : Flow) (h : Heights) (v : View) (all : AreOfKind v.kind v.units)
   pub walk-way : (start : ℕ) (frames : List Frame) (forward : Bool) (at o : ℕ) (gs : List Marks) → Goes start frames forward at o gs → (w : Whole) × Way forward w at o gs
   walk-way start [] true at o gs (is, (w, way, ends)) = (w, way)
   walk-way start [] false at o gs (is, (w, way, ends)) = absurd (cc is)
-  walk-way start (f ∷ fs) forward at o gs (w, before, way, inside, outside, rest) = (w, way)
+  walk-way start (f ∷ fs) forward at o gs (w, before, way, inside, outside, around, alone, rest) = (w, way)
 
   -- outside of lookarounds it is read forward
   walk-forward : (start : ℕ) (frames : List Frame) (forward : Bool) (at o : ℕ) (gs : List Marks) → Goes start frames forward at o gs → are_atomic frames ≡ true → forward ≡ true
   walk-forward start [] forward at o gs (is, (w, way, ends)) plain = is
-  walk-forward start (f ∷ fs) forward at o gs (w, before, way, inside, outside, rest) plain =
+  walk-forward start (f ∷ fs) forward at o gs (w, before, way, inside, outside, around, alone, rest) plain =
       let (stays, others) = and_parts (not f.returns) (are_atomic fs) plain in
       (outside (not-so f.returns stays)).0 ∙ walk-forward start fs f.forward f.continuation (offset_behind f w.offset) (mixed 0 inside.first inside.last w.groups before) rest others
     where
@@ -88,48 +87,75 @@ module _ (flow : Flow) (h : Heights) (v : View) (all : AreOfKind v.kind v.units)
       not-so true e = absurd (cc e)
       not-so false e = refl
 
-  abbrev near : (at o : ℕ) → ℕ
-  near at o = to_end h v at o
+  -- how it is read at an address that it comes to
+  read-there : (forward : Bool) (w : Whole) (at o : ℕ) (gs : List Marks) → Way forward w at o gs → direction_of (forward_at h at) ≡ direction_of forward
+  read-there forward w at o gs way = way.running.way
 
-  nearer : (s u : Whole) → IsBeyond (ranking_of h) (length v.units) Forward s u → u.at < length h.ranks → near u.at u.offset < near s.at s.offset
-  nearer s u beyond there = by_way beyond
-    where
-      N : ℕ
-      N = length h.order
+  -- ---- the contents around
 
-      by_way : IsBeyond (ranking_of h) last Forward s u → room last Forward u.offset * N + rank_at h u.at < room last Forward s.offset * N + rank_at h s.at
-      by_way (inl further) =
-          let less : suc (room last Forward u.offset) ≤ room last Forward s.offset = room-less last Forward s.offset u.offset further in
-          let more = mul-le (suc (room last Forward u.offset)) N (room last Forward s.offset) N less (omega arith) in
-          let one = suc-mul (room last Forward u.offset) N in
-          let low = rank-low h may.pass.placed u.at there in
-          omega (arith, more, one, low)
-      by_way (inr (same, lower)) = let e = ap (λ x. room last Forward x * N) same in omega (arith, e, lower)
+  abbrev InAll : (start : ℕ) → List Frame → (b : ℕ) → Type 0
+  InAll start frames b = Holds h program v may.pass.placed start frames b
 
-  -- inside of contents too
+  further-in : (fs : List Frame) (b c : ℕ) → IsWithin fs b → b < c → IsWithin fs c
+  further-in [] b c within less = tt
+  further-in (f ∷ fs) b c within less = omega (arith, within, less)
+
+  -- what lies between where the innermost contents begin and where the walk is lies in all that are around
+  all-around : (start : ℕ) (fs : List Frame) (forward : Bool) (at o : ℕ) (gs : List Marks) → Goes start fs forward at o gs → (b : ℕ) → IsWithin fs b → b < at → InAll start fs b
+  all-around start [] forward at o gs walks b within less = tt
+  all-around start (f ∷ fs) forward at o gs (w, before, way, inside, outside, around, alone, rest) b within less =
+      let ahead = inside.ahead in (
+        (within, omega (arith, less, ahead)),
+        all-around start fs f.forward f.continuation (offset_behind f w.offset) (mixed 0 inside.first inside.last w.groups before) rest b
+        (further-in fs f.opened b around within) (omega (arith, less, ahead)),
+      )
+
+  -- and so does what lies in the innermost
+  all-inside : (start : ℕ) (f : Frame) (fs : List Frame) (forward : Bool) (at o : ℕ) (gs : List Marks) → Goes start (f ∷ fs) forward at o gs → (b : ℕ) → f.opened < b → b < f.continuation
+      → InAll start (f ∷ fs) b
+  all-inside start f fs forward at o gs (w, before, way, inside, outside, around, alone, rest) b after ahead = (
+    (after, ahead),
+    all-around start fs f.forward f.continuation (offset_behind f w.offset) (mixed 0 inside.first inside.last w.groups before) rest b (further-in fs f.opened b around after) ahead,
+  )
+
+  all-here : (start : ℕ) (frames : List Frame) (forward : Bool) (at o : ℕ) (gs : List Marks) → Goes start frames forward at o gs → InAll start frames at
+  all-here start [] forward at o gs walks = tt
+  all-here start (f ∷ fs) forward at o gs walks = let (w, before, way, inside, others) = walks in all-inside start f fs forward at o gs walks at inside.after inside.ahead
+
+  -- the run from the begin has an answer
+  walk-answer : (start : ℕ) (frames : List Frame) (forward : Bool) (at o : ℕ) (gs : List Marks) → Goes start frames forward at o gs → (w : Whole) × EndsIn program (input_of v) start (Some w)
+  walk-answer start [] forward at o gs (is, (w, way, ends)) = (w, ends)
+  walk-answer start (f ∷ fs) forward at o gs (w, before, way, inside, outside, around, alone, rest) =
+      walk-answer start fs f.forward f.continuation (offset_behind f w.offset) (mixed 0 inside.first inside.last w.groups before) rest
+
+  -- inside of contents a walk comes nearer
   nearer-inside : (start : ℕ) (f : Frame) (fs : List Frame) (forward : Bool) (at o : ℕ) (gs : List Marks) → Goes start (f ∷ fs) forward at o gs → (u : Whole)
-      → IsBeyond (ranking_of h) last (direction_of forward) (whole at o [] []) u → u.at < length h.ranks → (are_atomic (f ∷ fs) ≡ false → at < u.at) → u.at < f.continuation
-      → left (f ∷ fs) u.at u.offset < left (f ∷ fs) at o
-  nearer-inside start f fs forward at o gs walks u beyond there more less = by_kind (are_atomic (f ∷ fs)) refl
+      → direction_of (forward_at h u.at) ≡ direction_of forward → IsBeyond (ranking_of h) last (direction_of forward) (whole at o [] []) u → u.at < length h.ranks
+      → sizes_from program u.at ≤ sizes_from program at → (have_loops program (f ∷ fs) ≡ false → at < u.at) → f.opened < u.at → u.at < f.continuation
+      → left start (f ∷ fs) u.at u.offset < left start (f ∷ fs) at o
+  nearer-inside start f fs forward at o gs walks u read beyond there sizes more after less = by_kind (have_loops program (f ∷ fs)) refl
     where
-      deep : ℕ
-      deep = far h v fs f.continuation f.offset
-
-      by_kind : (b : Bool) → are_atomic (f ∷ fs) ≡ b
-          → (if b then near u.at u.offset else deep + (f.continuation - u.at)) < (if b then near at o else deep + (f.continuation - at))
-      by_kind true plain =
-          nearer (whole at o [] []) u (subst (λ b. IsBeyond (ranking_of h) last (direction_of b) (whole at o [] []) u) (walk-forward start (f ∷ fs) forward at o gs walks plain) beyond) there
-      by_kind false deep' = let further = more deep' in omega (arith, further, less)
+      by_kind : (b : Bool) → have_loops program (f ∷ fs) ≡ b → left start (f ∷ fs) u.at u.offset < left start (f ∷ fs) at o
+      by_kind true have =
+          loops-nearer h program v may.pass.placed start (f ∷ fs) have (direction_of forward) at o u
+          (let (w, way) = walk-way start (f ∷ fs) forward at o gs walks in read-there forward w at o gs way) read
+          (λ plain. ap direction_of (walk-forward start (f ∷ fs) forward at o gs walks plain))
+          (all-here start (f ∷ fs) forward at o gs walks) (all-inside start f fs forward at o gs walks u.at after less) beyond there sizes
+      by_kind false none =
+          let further = more none in
+          let here = free-left h program v may.pass.placed start f fs at o none in
+          let on = free-left h program v may.pass.placed start f fs u.at u.offset none in
+          omega (arith, further, less, here, on)
 
   -- there are contents
-  contents-some : (atomics singles : Bool) (look first high continuation : ℕ) → AreContents atomics singles program look first high continuation → suc look < continuation
+  contents-some : (loops singles : Bool) (look first high continuation : ℕ) → AreContents loops singles program look first high continuation → suc look < continuation
   contents-some true singles look first high continuation free = free.some
   contents-some false singles look first high continuation free = free.some
 
   -- where an instruction inside leads is inside, and further where they have no loops
-  stays-in : (atomics singles : Bool) (look first high continuation : ℕ) → AreContents atomics singles program look first high continuation → (dir : Direction) (hs : List Marks)
+  stays-in : (loops singles : Bool) (look first high continuation : ℕ) → AreContents loops singles program look first high continuation → (dir : Direction) (hs : List Marks)
       (at o : ℕ) (i : Instruction) → look < at → at < continuation → Stands program at i → (x : Station) → led (told_by a) program (input_of v) dir hs i at o ≡ Some x
-      → (look < x.at) × (x.at < continuation) × (atomics ≡ false → at < x.at)
+      → (look < x.at) × (x.at < continuation) × (loops ≡ false → at < x.at)
   stays-in true singles look first high continuation free dir hs at o i after ahead here x e =
       let (low, less) = staying program look first high continuation free (told_by a) (input_of v) dir hs at o after x i here ahead e in (low, less, λ never. absurd (cc never))
   stays-in false singles look first high continuation free dir hs at o i after ahead here x e =
@@ -137,7 +163,7 @@ module _ (flow : Flow) (h : Heights) (v : View) (all : AreOfKind v.kind v.units)
       (omega (arith, after, more), less, λ deep. more)
 
   -- and what it writes
-  keeps-in : (atomics singles : Bool) (look first high continuation : ℕ) → AreContents atomics singles program look first high continuation → (dir : Direction)
+  keeps-in : (loops singles : Bool) (look first high continuation : ℕ) → AreContents loops singles program look first high continuation → (dir : Direction)
       (at o : ℕ) (i : Instruction) (new old : List Marks) → look < at → at < continuation → Stands program at i → AreKept first high new old → AreKept first high (marked dir i o new) old
   keeps-in true singles look first high continuation free dir at o i new old after ahead here kept =
       kept-inside first high look continuation dir at o i new old (free.stays at i after ahead here) kept
@@ -145,7 +171,7 @@ module _ (flow : Flow) (h : Heights) (v : View) (all : AreOfKind v.kind v.units)
       kept-on singles first high continuation dir at o i new old (free.leads at i after ahead here) kept
 
   -- what is matched by itself there ends inside, and its groups are inside
-  fits-in : (atomics singles : Bool) (look first high continuation : ℕ) → AreContents atomics singles program look first high continuation → (at : ℕ) (kind : Submatch) (low up behind : ℕ)
+  fits-in : (loops singles : Bool) (look first high continuation : ℕ) → AreContents loops singles program look first high continuation → (at : ℕ) (kind : Submatch) (low up behind : ℕ)
       → look < at → at < continuation → Stands program at (code.submatch kind low up behind) → (behind < continuation) × (first ≤ low) × (up ≤ high)
   fits-in true singles look first high continuation free at kind low up behind after ahead here =
       let (further, inside, from, upto) = stays-fits kind at low up behind first high look continuation (free.stays at (code.submatch kind low up behind) after ahead here) in
@@ -156,88 +182,81 @@ module _ (flow : Flow) (h : Heights) (v : View) (all : AreOfKind v.kind v.units)
   -- Where an instruction leads on the walk goes on, and comes nearer.
   walk-on : (start : ℕ) (frames : List Frame) (forward : Bool) (at o : ℕ) (gs hs : List Marks) → Goes start frames forward at o gs → (i : Instruction) → Stands program at i → is_entered i ≡ false
       → (x : Station) → led (told_by a) program (input_of v) (direction_of forward) hs i at o ≡ Some x
-      → Goes start frames forward x.at x.offset (marked (direction_of forward) i o gs) × (left frames x.at x.offset < left frames at o)
+      → Goes start frames forward x.at x.offset (marked (direction_of forward) i o gs) × (left start frames x.at x.offset < left start frames at o)
   walk-on start [] false at o gs hs (is, (w, way, ends)) i here out x e = absurd (cc is)
   walk-on start [] true at o gs hs (is, (w, way, ends)) i here out x e =
       let (on, ls, beyond, same, level) = on-way flow h v all program suits may.pass Forward (told_by a) Anywhere (right Forward) (past Forward) w at o gs way tt hs i here out x e in (
         (refl, (w, on, ends)),
-        nearer (whole at o way.loops gs) (whole x.at x.offset ls (marked Forward i o gs)) beyond on.there,
+        outside-nearer h program v may.pass.placed start at o (whole x.at x.offset ls (marked Forward i o gs)) beyond on.there
+            (sizes-led program flow h v may.pass (told_by a) (input_of v) Forward hs at o i here x e),
       )
-  walk-on start (f ∷ fs) forward at o gs hs (w, before, way, inside, outside, rest) i here out x e =
+  walk-on start (f ∷ fs) forward at o gs hs (w, before, way, inside, outside, around, alone, rest) i here out x e =
       let dir = direction_of forward in
-      let (low, less, more) = stays-in (are_atomic (f ∷ fs)) inside.singles inside.look inside.first inside.last f.continuation inside.free dir hs at o i inside.after inside.ahead here x e in
+      let loops = have_loops program (f ∷ fs) in
+      let (low, less, more) = stays-in loops inside.singles f.opened inside.first inside.last f.continuation inside.free dir hs at o i inside.after inside.ahead here x e in
       let (on, ls, beyond, same, level) = on-way flow h v all program suits may.pass dir (told_by a) Anywhere (right dir) (past dir) w at o gs way tt hs i here out x e in
-      let still : IsInside program (are_atomic (f ∷ fs)) f.continuation x.at (marked dir i o gs) before = record {
-        look = inside.look;
+      let still : IsInside program loops f.opened f.continuation x.at (marked dir i o gs) before = record {
         first = inside.first;
         last = inside.last;
         singles = inside.singles;
         free = inside.free;
         after = low;
         ahead = less;
-        kept = keeps-in (are_atomic (f ∷ fs)) inside.singles inside.look inside.first inside.last f.continuation inside.free dir at o i gs before inside.after inside.ahead here inside.kept;
+        kept = keeps-in loops inside.singles f.opened inside.first inside.last f.continuation inside.free dir at o i gs before inside.after inside.ahead here inside.kept;
       } in
       let outwards : GoesOutside h f forward x.at = λ away. ((outside away).0, same ∙ (outside away).1) in (
-        (w, before, on, still, outwards, rest),
-        nearer-inside start f fs forward at o gs (w, before, way, inside, outside, rest) (whole x.at x.offset ls (marked dir i o gs)) beyond on.there more less,
+        (w, before, on, still, outwards, around, alone, rest),
+        nearer-inside start f fs forward at o gs (w, before, way, inside, outside, around, alone, rest) (whole x.at x.offset ls (marked dir i o gs))
+            (read-there forward w x.at x.offset (marked dir i o gs) on) beyond on.there (sizes-led program flow h v may.pass (told_by a) (input_of v) dir hs at o i here x e) more low less,
       )
 
   -- Into contents the walk goes on, and comes nearer.
   module _ (start : ℕ) (forward : Bool) (at o : ℕ) (gs : List Marks) (kind : Submatch) (low high continuation : ℕ) (here : Stands program at (code.submatch kind low high continuation)) where
     abbrev new : Frame
-    new = frame continuation o forward (returns kind)
+    new = frame at continuation o forward (returns kind)
 
     -- a way into them, and one behind them
     abbrev Into : Whole → Type 0
     Into w = (t : Whole) × Way (inside_forward kind forward) t (suc at) o gs × Way forward w continuation (offset_behind new t.offset) (mixed 0 low high t.groups gs)
 
-    -- Ranks enough lie between, or those of an atomic group's contents are lower.
-    abbrev HaveRoom : Submatch → Type 0
-    HaveRoom (lookaround negated backward) = HaveRanks h at continuation
-    HaveRoom atomic = rank_at h (suc at) < rank_at h at
+    -- what they are inside of others, and that the walk comes nearer there
+    pub record Enters (frames : List Frame) : Type 0 where
+      pub singles : Bool
+      pub free : AreContents (have_loops program (new ∷ frames)) singles program at low high continuation
+      pub alone : AreAlone program new frames
+      pub closer : left start (new ∷ frames) (suc at) o < left start frames at o
 
-    -- it ends before the innermost contents do
-    abbrev EndsInside : List Frame → Type 0
-    EndsInside [] = Unit {0}
-    EndsInside (f ∷ fs) = continuation < f.continuation
-
-    nearer-into : (kind : Submatch) → HaveRoom kind → suc at < continuation → (frames : List Frame) → EndsInside frames
-        → left (frame continuation o forward (returns kind) ∷ frames) (suc at) o < left frames at o
-    nearer-into (lookaround negated backward) ranks some [] less = omega (arith, ranks, some)
-    nearer-into atomic lower some [] less = omega (arith, lower)
-    nearer-into (lookaround negated backward) ranks some (f ∷ fs) less = by_kind (are_atomic (f ∷ fs))
-      where
-        by_kind : (b : Bool) → (if b then near continuation o else far h v fs f.continuation f.offset + (f.continuation - continuation)) + (continuation - suc at)
-            < (if b then near at o else far h v fs f.continuation f.offset + (f.continuation - at))
-        by_kind true = omega (arith, ranks, some)
-        by_kind false = omega (arith, less, some)
-    nearer-into atomic lower some (f ∷ fs) less = by_kind (are_atomic (f ∷ fs)) refl
-      where
-        by_kind : (b : Bool) → are_atomic (f ∷ fs) ≡ b → (if b then near (suc at) o else far h v (f ∷ fs) continuation o + (continuation - suc at))
-            < (if b then near at o else far h v fs f.continuation f.offset + (f.continuation - at))
-        by_kind true e = omega (arith, lower)
-        by_kind false e =
-            let same = ap (λ (b : Bool). if b then near continuation o else far h v fs f.continuation f.offset + (f.continuation - continuation)) e in
-            omega (arith, less, some, same)
-
-    walk-into : (frames : List Frame) → Goes start frames forward at o gs → (singles : Bool) → AreContents (are_atomic (new ∷ frames)) singles program at low high continuation → HaveRoom kind
+    walk-into : (frames : List Frame) → Goes start frames forward at o gs → Enters frames
         → outside_at h continuation ≡ outside_at h at → (kind ≡ atomic → outside_at h (suc at) ≡ continuation) → ((w : Whole) → Way forward w at o gs → Into w)
-        → Goes start (new ∷ frames) (inside_forward kind forward) (suc at) o gs × (left (new ∷ frames) (suc at) o < left frames at o)
-    walk-into frames walks singles free ranks same leads-out into = by_frames frames refl walks
+        → Goes start (new ∷ frames) (inside_forward kind forward) (suc at) o gs × (left start (new ∷ frames) (suc at) o < left start frames at o)
+    walk-into frames walks enters same leads-out into = by_frames frames refl walks
       where
-        some : suc at < continuation
-        some = contents-some (are_atomic (new ∷ frames)) singles at low high continuation free
+        alone : AreAlone program new frames
+        alone = enters.alone
 
-        inside-now : IsInside program (are_atomic (new ∷ frames)) continuation (suc at) gs gs
-        inside-now = record { look = at; first = low; last = high; singles = singles; free = free; after = omega arith; ahead = some; kept = (refl, λ k out. refl) }
+        closer : left start (new ∷ frames) (suc at) o < left start frames at o
+        closer = enters.closer
+
+        some : suc at < continuation
+        some = contents-some (have_loops program (new ∷ frames)) enters.singles at low high continuation enters.free
+
+        inside-now : IsInside program (have_loops program (new ∷ frames)) at continuation (suc at) gs gs
+        inside-now = record { first = low; last = high; singles = enters.singles; free = enters.free; after = omega arith; ahead = some; kept = (refl, λ k out. refl) }
 
         outside-new : (kind : Submatch) → (kind ≡ atomic → outside_at h (suc at) ≡ continuation)
-            → GoesOutside h (frame continuation o forward (returns kind)) (inside_forward kind forward) (suc at)
+            → GoesOutside h (frame at continuation o forward (returns kind)) (inside_forward kind forward) (suc at)
         outside-new (lookaround negated backward) out away = absurd (cc away)
         outside-new atomic out away = (refl, out refl)
 
+        within-now : (fs : List Frame) → Goes start fs forward at o gs → IsWithin fs at
+        within-now [] goes = tt
+        within-now (f ∷ fs) (w, before, way, inside, others) = inside.after
+
+        around-new : IsWithin frames at
+        around-new = within-now frames walks
+
         by_base : frames ≡ [] → forward ≡ true → (w : Whole) → Way forward w at o gs → EndsIn program (input_of v) start (Some w)
-            → Goes start (new ∷ frames) (inside_forward kind forward) (suc at) o gs × (left (new ∷ frames) (suc at) o < left frames at o)
+            → Goes start (new ∷ frames) (inside_forward kind forward) (suc at) o gs × (left start (new ∷ frames) (suc at) o < left start frames at o)
         by_base none is w way ends =
             let (t, inner, outer) = into w way in (
               (
@@ -246,21 +265,22 @@ module _ (flow : Flow) (h : Heights) (v : View) (all : AreOfKind v.kind v.units)
                 inner,
                 inside-now,
                 outside-new kind leads-out,
+                around-new,
+                alone,
                 subst (λ fs. Goes start fs forward continuation (offset_behind new t.offset) (mixed 0 low high t.groups gs)) (sym none)
                     (is, (w, subst (λ b. IsOnWay flow h program v (direction_of b) w continuation (offset_behind new t.offset) (mixed 0 low high t.groups gs)) is outer, ends)),
               ),
-              subst (λ fs. left (new ∷ fs) (suc at) o < left fs at o) (sym none) (nearer-into kind ranks some [] tt),
+              closer,
             )
 
         by_frame : (f : Frame) (fs : List Frame) → frames ≡ f ∷ fs → Goes start (f ∷ fs) forward at o gs
-            → Goes start (new ∷ frames) (inside_forward kind forward) (suc at) o gs × (left (new ∷ frames) (suc at) o < left frames at o)
-        by_frame f fs are (w, before, way, inside, outside, rest) =
+            → Goes start (new ∷ frames) (inside_forward kind forward) (suc at) o gs × (left start (new ∷ frames) (suc at) o < left start frames at o)
+        by_frame f fs are (w, before, way, inside, outside, around, alone-there, rest) =
             let (t, inner, outer) = into w way in
             let (less, low', high') =
-            fits-in (are_atomic (f ∷ fs)) inside.singles inside.look inside.first inside.last f.continuation inside.free at kind low high continuation inside.after inside.ahead here in
+            fits-in (have_loops program (f ∷ fs)) inside.singles f.opened inside.first inside.last f.continuation inside.free at kind low high continuation inside.after inside.ahead here in
             let after = inside.after in
-            let still : IsInside program (are_atomic (f ∷ fs)) f.continuation continuation (mixed 0 low high t.groups gs) before = record {
-              look = inside.look;
+            let still : IsInside program (have_loops program (f ∷ fs)) f.opened f.continuation continuation (mixed 0 low high t.groups gs) before = record {
               first = inside.first;
               last = inside.last;
               singles = inside.singles;
@@ -279,20 +299,22 @@ module _ (flow : Flow) (h : Heights) (v : View) (all : AreOfKind v.kind v.units)
                 inner,
                 inside-now,
                 outside-new kind leads-out,
-                subst (λ fs. Goes start fs forward continuation (offset_behind new t.offset) (mixed 0 low high t.groups gs)) (sym are) (w, before, outer, still, outwards, rest),
+                around-new,
+                alone,
+                subst (λ fs. Goes start fs forward continuation (offset_behind new t.offset) (mixed 0 low high t.groups gs)) (sym are) (w, before, outer, still, outwards, around, alone-there, rest),
               ),
-              subst (λ gs. left (new ∷ gs) (suc at) o < left gs at o) (sym are) (nearer-into kind ranks some (f ∷ fs) less),
+              closer,
             )
 
         by_frames : (fs : List Frame) → frames ≡ fs → Goes start fs forward at o gs
-            → Goes start (new ∷ frames) (inside_forward kind forward) (suc at) o gs × (left (new ∷ frames) (suc at) o < left frames at o)
+            → Goes start (new ∷ frames) (inside_forward kind forward) (suc at) o gs × (left start (new ∷ frames) (suc at) o < left start frames at o)
         by_frames [] none (is, (w, way, ends)) = by_base none is w (subst (λ b. IsOnWay flow h program v (direction_of b) w at o gs) (sym is) way) ends
         by_frames (f ∷ fs) are goes = by_frame f fs are goes
 
   -- Where contents end the walk goes on behind them, and comes nearer.
   walk-out : (start : ℕ) (f : Frame) (fs : List Frame) (forward : Bool) (at o : ℕ) (gs : List Marks) → Goes start (f ∷ fs) forward at o gs → Stands program at code.goal
-      → Goes start fs f.forward f.continuation (offset_behind f o) gs × (left fs f.continuation (offset_behind f o) < left (f ∷ fs) at o)
-  walk-out start f fs forward at o gs (w, before, way, inside, outside, rest) here =
+      → Goes start fs f.forward f.continuation (offset_behind f o) gs × (left start fs f.continuation (offset_behind f o) < left start (f ∷ fs) at o)
+  walk-out start f fs forward at o gs (w, before, way, inside, outside, around, alone, rest) here =
       let dir = direction_of forward in
       let same = at-goal flow h v all program suits may.pass dir (told_by a) Anywhere (right dir) (past dir) w at o gs way tt gs here in
       let groups : w.groups ≡ gs = ap (λ (u : Whole). u.groups) same in
@@ -302,63 +324,243 @@ module _ (flow : Flow) (h : Heights) (v : View) (all : AreOfKind v.kind v.units)
       (subst (Goes start fs f.forward f.continuation (offset_behind f w.offset))
       (ap (λ ms. mixed 0 inside.first inside.last ms before) groups
       ∙ mixed-same inside.first inside.last 0 gs before inside.kept.0 (λ k out. inside.kept.1 k (λ low high. out (omega (arith, low)) (omega (arith, high))))) rest) in
-      (on, by_kind f.returns (are_atomic fs) refl refl (walk-way start fs f.forward f.continuation (offset_behind f o) gs on).1.there)
+      (on, by_kind (have_loops program (f ∷ fs)) f.returns refl refl on)
     where
-      -- outside of lookarounds it is as far as that, and inside as far from each offset
-      far-plain : (fs : List Frame) (b q : ℕ) → are_atomic fs ≡ true → left fs b q ≡ near b q
-      far-plain [] b q plain = refl
-      far-plain (g ∷ gs') b q plain = ap (λ (x : Bool). if x then near b q else far h v gs' g.continuation g.offset + (g.continuation - b)) plain
+      -- where contents have no loops the offset counts for nothing
+      same-left : (gs' : List Frame) → have_loops program gs' ≡ false → (b p q : ℕ) → left start gs' b p ≡ left start gs' b q
+      same-left [] none b p q = absurd (cc none)
+      same-left (g ∷ gs') none b p q = free-left h program v may.pass.placed start g gs' b p none ∙ sym (free-left h program v may.pass.placed start g gs' b q none)
 
-      far-deep : (fs : List Frame) (b p q : ℕ) → are_atomic fs ≡ false → left fs b p ≡ left fs b q
-      far-deep [] b p q deep = absurd (cc deep)
-      far-deep (g ∷ gs') b p q deep =
-          ap (λ (x : Bool). if x then near b p else far h v gs' g.continuation g.offset + (g.continuation - b)) deep
-          ∙ sym (ap (λ (x : Bool). if x then near b q else far h v gs' g.continuation g.offset + (g.continuation - b)) deep)
+      returned : (b : Bool) → f.returns ≡ b → offset_behind f o ≡ (if b then f.offset else o)
+      returned b is = ap (λ (x : Bool). if x then f.offset else o) is
 
-      by_kind : (b c : Bool) → f.returns ≡ b → are_atomic fs ≡ c → f.continuation < length h.ranks
-          → left fs f.continuation (if b then f.offset else o) < (if not b && c then near at o else left fs f.continuation f.offset + (f.continuation - at))
-      by_kind true c turns plain there = let within = inside.ahead in omega (arith, within)
-      by_kind false false turns deep there = let within = inside.ahead in let same = far-deep fs f.continuation o f.offset deep in omega (arith, within, same)
-      by_kind false true turns plain there =
-          let same = far-plain fs f.continuation o plain in
-          let out = (outside turns).1 in
-          let lower = may.pass.ranked at code.goal way.running.calm here (subst (λ n. n < length h.ranks) (sym out) there) in
-          let e = ap (rank_at h) out in
-          omega (arith, same, lower, e)
+      in-left : (b : Bool) → have_loops program (f ∷ fs) ≡ true → f.returns ≡ b
+          → left start (f ∷ fs) at o ≡ (if b then left start fs f.continuation f.offset + far_inside h program v f at o else left start fs at o)
+      in-left b have is =
+          loops-left h program v may.pass.placed start f fs at o have
+          ∙ ap (λ (x : Bool). if x then left start fs f.continuation f.offset + far_inside h program v f at o else left start fs at o) is
 
-  -- The contents of an atomic group have no loops where they are those of a lookaround too.
-  atomic-contents : (start : ℕ) (frames : List Frame) (forward : Bool) (at o : ℕ) (gs : List Marks) → Goes start frames forward at o gs → (low high continuation : ℕ)
-      → Stands program at (code.submatch atomic low high continuation) → (singles : Bool) × AreContents (are_atomic frames) singles program at low high continuation
-  atomic-contents start [] forward at o gs walks low high continuation here = (false, may.pass.leaves at low high continuation atomic here)
-  atomic-contents start (f ∷ fs) forward at o gs (w, before, way, inside, outside, rest) low high continuation here =
-      (inside.singles, by_kind (are_atomic (f ∷ fs)) inside.free)
-    where
-      closed : StayInside program at low high continuation
-      closed = may.pass.leaves at low high continuation atomic here
+      by_kind : (b c : Bool) → have_loops program (f ∷ fs) ≡ b → f.returns ≡ c → Goes start fs f.forward f.continuation (offset_behind f o) gs
+          → left start fs f.continuation (offset_behind f o) < left start (f ∷ fs) at o
+      by_kind true true have turns on =
+          let e = in-left true have turns in
+          let q = ap (left start fs f.continuation) (returned true turns) in
+          omega (arith, e, q)
+      by_kind true false have turns on =
+          let e = in-left false have turns in
+          let q = ap (left start fs f.continuation) (returned false turns) in
+          let (w', way') = walk-way start fs f.forward f.continuation (offset_behind f o) gs on in
+          let (same-way, out) = outside turns in
+          let lower = may.pass.ranked at code.goal way.running.calm here (subst (λ n. n < length h.ranks) (sym out) way'.there) in
+          let ranks = ap (rank_at h) out in
+          let read = read-there f.forward w' f.continuation (offset_behind f o) gs way' ∙ ap direction_of (sym same-way) in
+          let less = loops-nearer h program v may.pass.placed start fs (sym (loops-around h program v may.pass.placed start f fs turns) ∙ have) (direction_of forward) at o (whole f.continuation o [] [])
+              (read-there forward w at o gs way) read
+              (λ plain. ap direction_of (walk-forward start (f ∷ fs) forward at o gs (w, before, way, inside, outside, around, alone, rest) (ap (λ (b : Bool). not b && are_atomic fs) turns ∙ plain)))
+              (all-around start fs f.forward f.continuation (offset_behind f o) gs on at (further-in fs f.opened at around inside.after) inside.ahead)
+              (all-here start fs f.forward f.continuation (offset_behind f o) gs on) (inr (refl, omega (arith, lower, ranks))) way'.there
+              (let ahead = inside.ahead in sizes-le program at f.continuation (omega (arith, ahead))) in
+          omega (arith, e, q, less)
+      by_kind false true none turns on =
+          let e = free-left h program v may.pass.placed start f fs at o none in
+          let q = ap (left start fs f.continuation) (returned true turns) in
+          let ahead = inside.ahead in
+          omega (arith, e, q, ahead)
+      by_kind false false none turns on =
+          let e = free-left h program v may.pass.placed start f fs at o none in
+          let q = ap (left start fs f.continuation) (returned false turns) in
+          let same = same-left fs (sym (loops-around h program v may.pass.placed start f fs turns) ∙ none) f.continuation o f.offset in
+          let ahead = inside.ahead in
+          omega (arith, e, q, same, ahead)
 
-      by_kind : (b : Bool) → AreContents b inside.singles program inside.look inside.first inside.last f.continuation → AreContents b inside.singles program at low high continuation
-      by_kind true free = closed
-      by_kind false free =
-          let less = (fits-in false inside.singles inside.look inside.first inside.last f.continuation free at atomic low high continuation inside.after inside.ahead here).0 in
-          record {
-            some = closed.some;
-            leads = λ b i after ahead there.
-                let before = inside.after in
-                through-of inside.singles inside.first inside.last f.continuation low high at continuation b i
-                (free.leads b i (omega (arith, before, after)) (omega (arith, ahead, less)) there) (closed.stays b i after ahead there);
-          }
+  -- What is matched by itself in contents without loops has none either.
+  free-inside : (singles : Bool) (opened first up end : ℕ) → AreLoopFree program singles opened first up end → (at low high continuation : ℕ) → opened < at → continuation < end
+      → StayInside program at low high continuation → AreLoopFree program singles at low high continuation
+  free-inside singles opened first up end free at low high continuation after less closed = record {
+    some = closed.some;
+    leads = λ b i behind ahead there.
+        through-of singles first up end low high at continuation b i
+        (free.leads b i (omega (arith, after, behind)) (omega (arith, ahead, less)) there) (closed.stays b i behind ahead there);
+  }
+
+  module _ (start : ℕ) (forward : Bool) (at o : ℕ) (gs : List Marks) where
+    -- into contents without loops, inside of others that have none
+    closer-free : (kind : Submatch) (continuation : ℕ) (f : Frame) (fs : List Frame) → have_loops program (frame at continuation o forward (returns kind) ∷ f ∷ fs) ≡ false
+        → have_loops program (f ∷ fs) ≡ false → suc at < continuation → continuation < f.continuation
+        → left start (frame at continuation o forward (returns kind) ∷ f ∷ fs) (suc at) o < left start (f ∷ fs) at o
+    closer-free kind continuation f fs none outer some less =
+        let here = free-left h program v may.pass.placed start (frame at continuation o forward (returns kind)) (f ∷ fs) (suc at) o none in
+        let on = free-left h program v may.pass.placed start f fs continuation o outer in
+        let was = free-left h program v may.pass.placed start f fs at o outer in
+        omega (arith, here, on, was, some, less)
+
+    -- an atomic group
+    enters-atomic : (frames : List Frame) → Goes start frames forward at o gs → (low high continuation : ℕ) (here : Stands program at (code.submatch atomic low high continuation))
+        → Inside (ranking_of h) atomic at continuation → Enters start forward at o gs atomic low high continuation here frames
+    enters-atomic frames walks low high continuation here inner = by_loops (have_loops program frames) refl
+      where
+        closed : StayInside program at low high continuation
+        closed = may.pass.leaves at low high continuation atomic here
+
+        new' : Frame
+        new' = frame at continuation o forward false
+
+        all-next : (fs : List Frame) → Goes start fs forward at o gs → InAll start fs (suc at)
+        all-next [] goes = tt
+        all-next (f ∷ fs) goes =
+            let (w, before, way, inside, others) = goes in
+            let after = inside.after in
+            let some = closed.some in
+            let less = (fits-in (have_loops program (f ∷ fs)) inside.singles f.opened inside.first inside.last f.continuation inside.free at atomic low high continuation inside.after inside.ahead here).0 in
+            all-inside start f fs forward at o gs goes (suc at) (omega (arith, after)) (omega (arith, some, less))
+
+        alone-new : (fs : List Frame) → Goes start fs forward at o gs → AreAlone program new' fs
+        alone-new [] goes have deep = absurd (cc deep)
+        alone-new (f ∷ fs) (w, before, way, inside, outside, around, alone, rest) have deep b i behind ahead there =
+            let after = inside.after in
+            let less = (fits-in (have_loops program (f ∷ fs)) inside.singles f.opened inside.first inside.last f.continuation inside.free at atomic low high continuation inside.after inside.ahead here).0 in
+            alone have deep b i (omega (arith, after, behind)) (omega (arith, ahead, less)) there
+
+        free-in : (fs : List Frame) → Goes start fs forward at o gs → have_loops program fs ≡ false → Enters start forward at o gs atomic low high continuation here fs
+        free-in [] goes none = absurd (cc none)
+        free-in (f ∷ fs) (w, before, way, inside, outside, around, alone, rest) none =
+            let less = (fits-in (have_loops program (f ∷ fs)) inside.singles f.opened inside.first inside.last f.continuation inside.free at atomic low high continuation inside.after inside.ahead here).0 in
+            let free : AreLoopFree program inside.singles f.opened inside.first inside.last f.continuation
+                = subst (λ b. AreContents b inside.singles program f.opened inside.first inside.last f.continuation) none inside.free in
+            record {
+              singles = inside.singles;
+              free = subst (λ b. AreContents b inside.singles program at low high continuation) (sym none)
+                  (free-inside inside.singles f.opened inside.first inside.last f.continuation free at low high continuation inside.after less closed);
+              alone = λ have. absurd (let x = sym have ∙ none in cc x);
+              closer = closer-free atomic continuation f fs none none closed.some less;
+            }
+
+        by_loops : (b : Bool) → have_loops program frames ≡ b → Enters start forward at o gs atomic low high continuation here frames
+        by_loops true have =
+            let (w, way) = walk-way start frames forward at o gs walks in
+            let read = read-there forward w at o gs way in
+            let same = loops-left h program v may.pass.placed start new' frames (suc at) o have in
+            let less = loops-nearer h program v may.pass.placed start frames have (direction_of forward) at o (whole (suc at) o [] []) read (inner.way ∙ read)
+                (λ plain. ap direction_of (walk-forward start frames forward at o gs walks plain)) (all-here start frames forward at o gs walks) (all-next frames walks)
+                (inr (refl, atomic-lower (ranking_of h) at continuation inner)) inner.within (sizes-le program at (suc at) (omega arith)) in
+            record {
+              singles = false;
+              free = subst (λ b. AreContents b false program at low high continuation) (sym have) closed;
+              alone = alone-new frames walks;
+              closer = omega (arith, same, less);
+            }
+        by_loops false none = free-in frames walks none
+
+    -- a lookaround that leaves groups
+    enters-look : IsAtPlace (reading_of v) start → (frames : List Frame) → Goes start frames forward at o gs → (backward : Bool) (low high continuation : ℕ)
+        (here : Stands program at (code.submatch (lookaround false backward) low high continuation)) → low < high → rank_at h continuation < rank_at h at
+        → Enters start forward at o gs (lookaround false backward) low high continuation here frames
+    enters-look place frames walks backward low high continuation here some lower = by_kind (are_atomic frames) (repeats_inside program at continuation) refl refl
+      where
+        new' : Frame
+        new' = frame at continuation o forward true
+
+        leaving : AreLeaving (repeats_inside program at continuation) h program at low high continuation
+        leaving = may.pass.leaves at low high continuation (lookaround false backward) here some
+
+        leaves-as : (c : Bool) → repeats_inside program at continuation ≡ c → AreLeaving c h program at low high continuation
+        leaves-as c has = subst (λ b. AreLeaving b h program at low high continuation) has leaving
+
+        unlike : (b : Bool) → b ≡ true → b ≡ false → ⊥
+        unlike b is is' = let x = sym is ∙ is' in cc x
+
+        -- outside of lookarounds, with loops
+        once : are_atomic frames ≡ true → repeats_inside program at continuation ≡ true → Enters start forward at o gs (lookaround false backward) low high continuation here frames
+        once plain has =
+            let m = leaves-as true has in
+            let have : have_loops program (new' ∷ frames) ≡ true = ap (λ (x : Bool). x && repeats_inside program at continuation) plain ∙ has in
+            let (w, way) = walk-way start frames forward at o gs walks in
+            let (answer, ends) = walk-answer start frames forward at o gs walks in
+            let starts = (and_parts (is_text_start (slice_get program.instructions 0)) (nat_lt at (lead_back (suc at) (drop (suc at) program.instructions))) m.once).0 in
+            let begins = begins-at-start v all program starts start place answer ends in
+            let size : loop_size program at (code.submatch (lookaround false backward) low high continuation) ≡ continuation - at
+                = ap (λ (x : Bool). if x && repeats_inside program at continuation then continuation - at else 0) (lt-ltb low high some) ∙ ap (λ (x : Bool). if x then continuation - at else 0) has in
+            let one = sizes-here program at (code.submatch (lookaround false backward) low high continuation) here in
+            let inner-some = m.stay.some in
+            let fewer = sizes-le program (suc at) continuation (omega (arith, inner-some)) in
+            let same = loops-left h program v may.pass.placed start new' frames (suc at) o have in
+            let was = outside-left h program v may.pass.placed start frames plain at o in
+            let on = outside-left h program v may.pass.placed start frames plain continuation o in
+            let less = nearer-once h program v may.pass.placed start at o continuation new' begins refl refl m.stay.some way.within lower (omega (arith, size, one, fewer)) in
+            record {
+              singles = false;
+              free = subst (λ b. AreContents b false program at low high continuation) (sym have) m.stay;
+              alone = λ have' deep b i after ahead there. m.alone b i after ahead there;
+              closer = omega (arith, same, was, on, less);
+            }
+
+        -- and without
+        often : are_atomic frames ≡ true → repeats_inside program at continuation ≡ false → Enters start forward at o gs (lookaround false backward) low high continuation here frames
+        often plain has =
+            let (free, ranks) = leaves-as false has in
+            let none : have_loops program (new' ∷ frames) ≡ false = ap (λ (x : Bool). x && repeats_inside program at continuation) plain ∙ has in
+            let same = free-left h program v may.pass.placed start new' frames (suc at) o none in
+            let was = outside-left h program v may.pass.placed start frames plain at o in
+            let on = outside-left h program v may.pass.placed start frames plain continuation o in
+            let inner-some = free.some in
+            let few = loops-le h program v may.pass.placed start at continuation (sizes-le program at continuation (omega (arith, inner-some))) in
+            record {
+              singles = is_visited_once program at;
+              free = subst (λ b. AreContents b (is_visited_once program at) program at low high continuation) (sym none) free;
+              alone = λ have. absurd (unlike (have_loops program (new' ∷ frames)) have none);
+              closer = omega (arith, same, was, on, ranks, inner-some, few);
+            }
+
+        -- inside of a lookaround
+        deep-in : (fs : List Frame) → Goes start fs forward at o gs → are_atomic fs ≡ false → Enters start forward at o gs (lookaround false backward) low high continuation here fs
+        deep-in [] goes deep = absurd (cc deep)
+        deep-in (f ∷ fs) (w, before, way, inside, outside, around, alone, rest) deep = by_loops (have_loops program (f ∷ fs)) refl
+          where
+            none-new : have_loops program (new' ∷ f ∷ fs) ≡ false
+            none-new = ap (λ (x : Bool). x && repeats_inside program at continuation) deep
+
+            less : continuation < f.continuation
+            less = (fits-in (have_loops program (f ∷ fs)) inside.singles f.opened inside.first inside.last f.continuation inside.free at (lookaround false backward) low high continuation inside.after inside.ahead here).0
+
+            enters : (singles : Bool) → AreLoopFree program singles at low high continuation → have_loops program (f ∷ fs) ≡ false
+                → Enters start forward at o gs (lookaround false backward) low high continuation here (f ∷ fs)
+            enters singles free none = record {
+              singles = singles;
+              free = subst (λ b. AreContents b singles program at low high continuation) (sym none-new) free;
+              alone = λ have. absurd (unlike (have_loops program (new' ∷ f ∷ fs)) have none-new);
+              closer = closer-free (lookaround false backward) continuation f fs none-new none free.some less;
+            }
+
+            by_inner : (c : Bool) → repeats_inside program at continuation ≡ c → have_loops program (f ∷ fs) ≡ false
+                → Enters start forward at o gs (lookaround false backward) low high continuation here (f ∷ fs)
+            by_inner true has none =
+                let free : AreLoopFree program inside.singles f.opened inside.first inside.last f.continuation
+                    = subst (λ b. AreContents b inside.singles program f.opened inside.first inside.last f.continuation) none inside.free in
+                enters inside.singles (free-inside inside.singles f.opened inside.first inside.last f.continuation free at low high continuation inside.after less (leaves-as true has).stay) none
+            by_inner false has none = enters (is_visited_once program at) (leaves-as false has).0 none
+
+            by_loops : (b : Bool) → have_loops program (f ∷ fs) ≡ b → Enters start forward at o gs (lookaround false backward) low high continuation here (f ∷ fs)
+            by_loops true have =
+                let never = leb-true high low (alone have deep at (code.submatch (lookaround false backward) low high continuation) inside.after inside.ahead here) in
+                absurd (omega (arith, never, some))
+            by_loops false none = by_inner (repeats_inside program at continuation) refl none
+
+        by_kind : (b c : Bool) → are_atomic frames ≡ b → repeats_inside program at continuation ≡ c → Enters start forward at o gs (lookaround false backward) low high continuation here frames
+        by_kind true true plain has = once plain has
+        by_kind true false plain has = often plain has
+        by_kind false c deep has = deep-in frames walks deep
 
   -- So it goes on until it has come to its end.
-  pub walk-goes : (start : ℕ) (frames : List Frame) (forward : Bool) (at o : ℕ) (gs hs : List Marks) → Goes start frames forward at o gs → (i : Instruction) → Stands program at i → (y : Walk)
+  pub walk-goes : (start : ℕ) → IsAtPlace (reading_of v) start → (frames : List Frame) (forward : Bool) (at o : ℕ) (gs hs : List Marks) → Goes start frames forward at o gs → (i : Instruction) → Stands program at i → (y : Walk)
       → goes i (led (told_by a) program (input_of v) (direction_of forward) hs i at o) (record { at = at; offset = o; forward = forward; frames = frames }) ≡ Some y
-      → Goes start y.frames y.forward y.at y.offset (marked (direction_of forward) i o gs) × (left y.frames y.at y.offset < left frames at o)
-  walk-goes start frames forward at o gs hs walks i here y e = by_led (led (told_by a) program (input_of v) (direction_of forward) hs i at o) refl e
+      → Goes start y.frames y.forward y.at y.offset (marked (direction_of forward) i o gs) × (left start y.frames y.at y.offset < left start frames at o)
+  walk-goes start place frames forward at o gs hs walks i here y e = by_led (led (told_by a) program (input_of v) (direction_of forward) hs i at o) refl e
     where
       now : Walk
       now = record { at = at; offset = o; forward = forward; frames = frames }
 
       Further : Walk → Type 0
-      Further z = Goes start z.frames z.forward z.at z.offset (marked (direction_of forward) i o gs) × (left z.frames z.at z.offset < left frames at o)
+      Further z = Goes start z.frames z.forward z.at z.offset (marked (direction_of forward) i o gs) × (left start z.frames z.at z.offset < left start frames at o)
 
       dir : Direction
       dir = direction_of forward
@@ -369,18 +571,18 @@ module _ (flow : Flow) (h : Heights) (v : View) (all : AreOfKind v.kind v.units)
           may.pass.ranked at (code.submatch kind low high continuation) (walk-way start frames forward at o gs walks).1.running.calm there
 
       into : (i : Instruction) → Stands program at i → is_entered i ≡ true → Goes start (entered i now).frames (entered i now).forward (entered i now).at (entered i now).offset (marked dir i o gs)
-          × (left (entered i now).frames (entered i now).at (entered i now).offset < left frames at o)
+          × (left start (entered i now).frames (entered i now).at (entered i now).offset < left start frames at o)
       into (code.submatch (lookaround false backward) low high continuation) there is =
-          let (free, ranks) = may.pass.leaves at low high continuation (lookaround false backward) there (ltb-true low high is) in
           let lower = (ranked-there (lookaround false backward) low high continuation there).0 in
-          walk-into start forward at o gs (lookaround false backward) low high continuation there frames walks (is_visited_once program at) free ranks lower.same (λ e. absurd (cc e)) (λ w way.
+          let rank = elim lower.rank [ inl some ↦ absurd (omega (arith, some)) | inr less ↦ less ] in
+          walk-into start forward at o gs (lookaround false backward) low high continuation there frames walks
+          (enters-look start forward at o gs place frames walks backward low high continuation there (ltb-true low high is) rank) lower.same (λ e. absurd (cc e)) (λ w way.
           let (t, inner, outer, anywhere) = look-into flow h v all program suits may.pass dir (told_by a) Anywhere (right dir) (past dir) w at o gs way tt gs backward low high continuation there in
           (t, inner, outer))
       into (code.submatch (lookaround true backward) low high continuation) there is = absurd (cc is)
       into (code.submatch atomic low high continuation) there is =
           let (lower, inner) = ranked-there atomic low high continuation there in
-          let (singles, contents) = atomic-contents start frames forward at o gs walks low high continuation there in
-          walk-into start forward at o gs atomic low high continuation there frames walks singles contents (atomic-lower (ranking_of h) at continuation inner)
+          walk-into start forward at o gs atomic low high continuation there frames walks (enters-atomic start forward at o gs frames walks low high continuation there inner)
           lower.same inner.outside (λ w way.
           let (t, inner, outer, anywhere) = atomic-into flow h v all program suits may.pass dir (told_by a) Anywhere (right dir) (past dir) w at o gs way tt gs low high continuation there in
           (t, inner, outer))
@@ -394,13 +596,13 @@ module _ (flow : Flow) (h : Heights) (v : View) (all : AreOfKind v.kind v.units)
       out : (frames : List Frame) → Goes start frames forward at o gs → i ≡ code.goal → elim frames [
         | [] ↦ None
         | f ∷ fs ↦ Some (record { at = f.continuation; offset = offset_behind f o; forward = f.forward; frames = fs })
-      ] ≡ Some y → Goes start y.frames y.forward y.at y.offset (marked (direction_of forward) i o gs) × (left y.frames y.at y.offset < left frames at o)
+      ] ≡ Some y → Goes start y.frames y.forward y.at y.offset (marked (direction_of forward) i o gs) × (left start y.frames y.at y.offset < left start frames at o)
       out [] walks' is none = absurd (cc none)
       out (f ∷ fs) walks' is some =
           let behind : Walk = record { at = f.continuation; offset = offset_behind f o; forward = f.forward; frames = fs } in
           let same : behind ≡ y = walk-is behind y some in
-          subst (λ (z : Walk). Goes start z.frames z.forward z.at z.offset (marked (direction_of forward) i o gs) × (left z.frames z.at z.offset < left (f ∷ fs) at o)) same
-          (subst (λ j. Goes start fs f.forward f.continuation (offset_behind f o) (marked (direction_of forward) j o gs) × (left fs f.continuation (offset_behind f o) < left (f ∷ fs) at o)) (sym is)
+          subst (λ (z : Walk). Goes start z.frames z.forward z.at z.offset (marked (direction_of forward) i o gs) × (left start z.frames z.at z.offset < left start (f ∷ fs) at o)) same
+          (subst (λ j. Goes start fs f.forward f.continuation (offset_behind f o) (marked (direction_of forward) j o gs) × (left start fs f.continuation (offset_behind f o) < left start (f ∷ fs) at o)) (sym is)
           (walk-out start f fs forward at o gs walks' (subst (Stands program at) is here)))
 
       by_led : (l : Option Station) → led (told_by a) program (input_of v) (direction_of forward) hs i at o ≡ l → goes i l now ≡ Some y → Further y
@@ -435,11 +637,11 @@ module _ (flow : Flow) (h : Heights) (v : View) (all : AreOfKind v.kind v.units)
           (w, ends, ap (λ (u : Whole). u.offset) same, ap (λ (u : Whole). u.groups) same)
 
   -- so far it has come at least
-  pub end-left : (frames : List Frame) (forward : Bool) (at o : ℕ) (i : Instruction) (l : Option Station) → goes i l (record { at = at; offset = o; forward = forward; frames = frames }) ≡ None
-      → room (length v.units) Forward o * length h.order ≤ left frames at o
-  end-left [] forward at o i l e = omega arith
-  end-left (f ∷ fs) forward at o i None e = absurd (cc e)
-  end-left (f ∷ fs) forward at o i (Some x) e = absurd (cc e)
+  pub end-left : (start : ℕ) (frames : List Frame) (forward : Bool) (at o : ℕ) (i : Instruction) (l : Option Station) → goes i l (record { at = at; offset = o; forward = forward; frames = frames }) ≡ None
+      → room (length v.units) Forward o * length h.order ≤ left start frames at o
+  end-left start [] forward at o i l e = omega arith
+  end-left start (f ∷ fs) forward at o i None e = absurd (cc e)
+  end-left start (f ∷ fs) forward at o i (Some x) e = absurd (cc e)
 
   -- what is told of the exits of a one-character loop that stands there is so
   pub walk-exits : (start : ℕ) (frames : List Frame) (forward : Bool) (at o : ℕ) (gs hs : List Marks) → Goes start frames forward at o gs → (i : Instruction) → Stands program at i

@@ -12,6 +12,8 @@ use std::alloc::{AllocError, Global};
 /// Contents that are gone through: where the way goes on behind them.
 #[derive(Debug, Clone, Copy)]
 pub(crate) struct Frame {
+    /// The address behind which the contents stand.
+    pub(crate) opened: usize,
     /// The address.
     pub(crate) continuation: usize,
     /// The offset where the contents began.
@@ -87,10 +89,11 @@ impl Walker {
           at = suc self.old.here.at;
           offset = self.old.here.offset;
           forward = forward;
-          frames = frame continuation self.old.here.offset self.old.forward returns ∷ (walk_of self.old).frames;
+          frames = frame self.old.here.at continuation self.old.here.offset self.old.forward returns ∷ (walk_of self.old).frames;
         }) }
     {
         self.frames.push(Frame {
+            opened: self.here.at,
             continuation,
             offset: self.here.offset,
             forward: self.forward,

@@ -21,6 +21,7 @@ ghost use Rattle.regress_engine_linear.specs.LinearViews.{flow_in, heights_in};
 ghost use Rattle.regress_engine_answers.specs.Filling.{IsReadyIn};
 ghost use Rattle.regress_engine_ways.specs.Ways.{again_at, either_of, first_of, led, marked, station_at, written_by};
 ghost use Rattle.regress_engine_answers.specs.Filled.{AreExitsKnown};
+ghost use Rattle.regress_engine_walks.specs.Searched.{StepsTo};
 ghost use Rattle.regress_engine_walks.specs.Walked.{AreExitsTold};
 
 use crate::walker::Walker;
@@ -311,8 +312,8 @@ fn led<Input: ExecutorInput>(
 }
 
 /// Follows the way from an offset to where the run from there has its answer: it answers the offset where that ends, and writes its groups.
-/// It counts each instruction that is done: at most as many as there are addresses and offsets up to where it ends. It errs where memory
-/// is refused.
+/// It counts each instruction that is done: at most as many as there are addresses and offsets up to where it ends, and where it begins with
+/// the text so many once more. It errs where memory is refused.
 pub(crate) fn follow<Input: ExecutorInput>(
     answering: &Answering<'_, Input>,
     table: &LinearTable,
@@ -334,8 +335,7 @@ pub(crate) fn follow<Input: ExecutorInput>(
     requires told { told_by answers.now 0 start ≡ true }
     ensures answer { IfOk result (λ end. IsAnswer (program_of answering.now.program.now) (input_of (Input.view answering.now.input)) start (Some end)
         (map marks_of groups.new.items)) }
-    ensures counted { IfOk result (λ end. steps.new + room (length (Input.view answering.now.input).units) Forward end * length (heights_in table.now).order
-        ≤ steps.old + room (length (Input.view answering.now.input).units) Forward start * length (heights_in table.now).order + length (heights_in table.now).order) }
+    ensures counted { IfOk result (λ end. StepsTo table.now (Input.view answering.now.input) steps.old steps.new (Some (start, end))) }
 {
     reset(groups, answering.groups.len())?;
     let mut walker = Walker::new(*groups.allocator(), start);

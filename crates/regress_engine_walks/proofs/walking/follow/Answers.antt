@@ -13,6 +13,7 @@ use Rattle.regress_engine_ways.proofs.OnWay.{written-fits}
 use Rattle.regress_engine_walks.proofs.MayWalk.{may-walk}
 use Rattle.regress_engine_ways.proofs.ExitWays.{runs-stand}
 use Rattle.regress_engine_linear.proofs.WorkLemmas.{rank-low}
+use Rattle.regress_engine_walks.proofs.Sizes.{loops-begin}
 use Rattle.regress_engine_walks.proofs.Walks.{end-left, walk-begins, walk-ends, walk-exits, walk-goes, walk-ready, walk-way}
 use Rattle.regress_engine_walks.proofs.walking.follow.Goals as goal
 
@@ -32,7 +33,7 @@ way-init g c =
       way = subst (λ (w : Walk). Walks flow h program v start w.frames w.forward w.at w.offset (map marks_of c.reset.new.groups.items)) (sym walk)
           (subst (Walks flow h program v start [] true 0 start) (sym (c.in_ok-reset.ensures.marks ∙ ap (λ n. replicate n unset) count)) begins);
       size = c.in_ok-reset.ensures.count ∙ count;
-      counted = subst (λ (w : Walk). c.args.steps.now + far h v w.frames w.at w.offset ≤ c.args.steps.now + far h v [] 0 start) (sym walk) (omega arith);
+      counted = subst (λ (w : Walk). c.args.steps.now + far h program v start w.frames w.at w.offset ≤ c.args.steps.now + far h program v start [] 0 start) (sym walk) (omega arith);
     }
 
 pub instruction-insn-requires : goal.instruction-insn-requires
@@ -104,11 +105,12 @@ returns-then-not-branch-clause-counted g c =
     let walk = walk_of c.way.walker in
     let i = instruction c.instruction-insn.result.now in
     let ends : goes i c.led-next.result walk ≡ None = c.in_ok-goes.ensures ∙ ap (λ b. if b then Some (walk_of c.goes.new.self) else None) c.if-not-branch.true in
-    let least = end-left (flow_in c.args.table.now) (heights_in c.args.table.now) (g.Input.InputIndexer.view c.args.answering.now.input) all (program_of c.args.answering.now.program.now) c.requires.suits c.args.answers.now may walk.frames walk.forward walk.at walk.offset i c.led-next.result ends in
+    let least = end-left (flow_in c.args.table.now) (heights_in c.args.table.now) (g.Input.InputIndexer.view c.args.answering.now.input) all (program_of c.args.answering.now.program.now) c.requires.suits c.args.answers.now may c.args.start walk.frames walk.forward walk.at walk.offset i c.led-next.result ends in
     let low = rank-low (heights_in c.args.table.now) may.pass.placed 0 may.there in
     let counted = c.way.invariant.counted in
     let one = c.saturating_add.ensures in
-    omega (arith, low, least, counted, one)
+    let loops = loops-begin _ (program_of c.args.answering.now.program.now) (g.Input.InputIndexer.view c.args.answering.now.input) may.once c.args.start in
+    omega (arith, low, least, counted, one, loops)
 
 pub way-smaller : goal.way-smaller
 way-smaller g c =
@@ -119,7 +121,7 @@ way-smaller g c =
     let hs = map marks_of c.args.answering.now.groups.now in
     let i = instruction c.instruction-insn.result.now in
     let on : goes i c.led-next.result walk ≡ Some (walk_of c.goes.new.self) = c.in_ok-goes.ensures ∙ ap (λ b. if b then Some (walk_of c.goes.new.self) else None) c.if-not-branch.false in
-    (walk-goes _ _ (g.Input.InputIndexer.view c.args.answering.now.input) all (program_of c.args.answering.now.program.now) c.requires.suits c.args.answers.now may c.args.start walk.frames walk.forward walk.at walk.offset gs hs c.way.invariant.way i c.instruction-insn.ensures.stands
+    (walk-goes _ _ (g.Input.InputIndexer.view c.args.answering.now.input) all (program_of c.args.answering.now.program.now) c.requires.suits c.args.answers.now may c.args.start c.requires.place walk.frames walk.forward walk.at walk.offset gs hs c.way.invariant.way i c.instruction-insn.ensures.stands
     (walk_of c.goes.new.self) (ap (λ l. goes i l walk) (sym c.led-next.ensures) ∙ on)).1
 
 pub way-preserved : goal.way-preserved
@@ -132,7 +134,7 @@ way-preserved g c =
     let i = instruction c.instruction-insn.result.now in
     let on : goes i c.led-next.result walk ≡ Some (walk_of c.goes.new.self) = c.in_ok-goes.ensures ∙ ap (λ b. if b then Some (walk_of c.goes.new.self) else None) c.if-not-branch.false in
     let y = walk_of c.goes.new.self in
-    let (walks, less) = walk-goes _ _ (g.Input.InputIndexer.view c.args.answering.now.input) all (program_of c.args.answering.now.program.now) c.requires.suits c.args.answers.now may c.args.start walk.frames walk.forward walk.at walk.offset gs hs c.way.invariant.way i
+    let (walks, less) = walk-goes _ _ (g.Input.InputIndexer.view c.args.answering.now.input) all (program_of c.args.answering.now.program.now) c.requires.suits c.args.answers.now may c.args.start c.requires.place walk.frames walk.forward walk.at walk.offset gs hs c.way.invariant.way i
     c.instruction-insn.ensures.stands y (ap (λ l. goes i l walk) (sym c.led-next.ensures) ∙ on) in
     let counted = c.way.invariant.counted in
     let one = c.saturating_add.ensures in

@@ -1,10 +1,7 @@
-use Rattle.std.proofs.Common.{◌≡◌, ◌+◌, ◌*◌, ◌≤◌, length, map}
-use Rattle.regress_meaning.specs.Meaning.{Forward}
+use Rattle.std.proofs.Common.{◌≡◌, ◌+◌, ◌≤◌, [], length, map}
 use Rattle.regress_engine_code.specs.Standing.{program_of}
-use Rattle.regress_engine_runs.specs.Runs.{room}
 use Rattle.regress_engine_search.specs.StateViews.{marks_of}
 use Rattle.regress_engine_linear.specs.LinearViews.{flow_in, heights_in}
-use Rattle.regress_engine_linear.specs.RankTables.{rank_at}
 use Rattle.regress_engine_walks.specs.Walked.{Walks, far, walk_of}
 use Rattle.regress_engine_walks.proofs.walking.follow.Given as goal
 
@@ -14,9 +11,9 @@ invariant-way g l = record {
   way : Walks (flow_in l.table) (heights_in l.table) (program_of l.answering.program.now) (g.Input.InputIndexer.view l.answering.input) l.start (walk_of l.walker).frames l.walker.forward
       l.walker.here.at l.walker.here.offset (map marks_of l.groups.items);
   size : length l.groups.items ≡ (program_of l.answering.program.now).groups;
-  counted : l.steps + far (heights_in l.table) (g.Input.InputIndexer.view l.answering.input) (walk_of l.walker).frames l.walker.here.at l.walker.here.offset
-      ≤ l.initial.steps + (room (length (g.Input.InputIndexer.view l.answering.input).units) Forward l.start * length (heights_in l.table).order + rank_at (heights_in l.table) 0);
+  counted : l.steps + far (heights_in l.table) (program_of l.answering.program.now) (g.Input.InputIndexer.view l.answering.input) l.start (walk_of l.walker).frames l.walker.here.at l.walker.here.offset
+      ≤ l.initial.steps + far (heights_in l.table) (program_of l.answering.program.now) (g.Input.InputIndexer.view l.answering.input) l.start [] 0 l.start;
 }
 
 abbrev pub decreases-way : goal.decreases-way
-decreases-way g l = far (heights_in l.table) (g.Input.InputIndexer.view l.answering.input) (walk_of l.walker).frames l.walker.here.at l.walker.here.offset
+decreases-way g l = far (heights_in l.table) (program_of l.answering.program.now) (g.Input.InputIndexer.view l.answering.input) l.start (walk_of l.walker).frames l.walker.here.at l.walker.here.offset

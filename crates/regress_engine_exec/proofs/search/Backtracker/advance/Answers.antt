@@ -41,7 +41,7 @@ pub returns-in_default-clause-tabled : goal.returns-in_default-clause-tabled
 returns-in_default-clause-tabled g c =
     let self = c.args.self.now in
     none-ahead (table_in self) (length (search_in self).view.units) c.args.position (tabled_in self) (tabled_in c.find_from.new.self)
-    (subst (λ o. tabled_in c.find_from.new.self ≤ tabled_in self + most_walked (table_in self) (option_map (λ m. ends (item_of m)) o)) c.in_default.is c.in_ok-found.ensures.tabled)
+    (subst (λ o. tabled_in c.find_from.new.self ≤ tabled_in self + most_walked (table_in self) (length (search_in self).view.units) (option_map (λ m. ends (item_of m)) o)) c.in_default.is c.in_ok-found.ensures.tabled)
 
 pub returns : goal.returns
 returns g c =
@@ -66,7 +66,7 @@ returns g c =
           let self = c.args.self.now in
           let before = tabled_in self in
           let after = tabled_in c.find_from.new.self in
-          let more = subst (λ o. after ≤ before + most_walked (table_in self) (option_map (λ m. ends (item_of m)) o)) c.in-Some.is c.in_ok-found.ensures.tabled in
+          let more = subst (λ o. after ≤ before + most_walked (table_in self) (length (search_in self).view.units) (option_map (λ m. ends (item_of m)) o)) c.in-Some.is c.in_ok-found.ensures.tabled in
           let last = subst (λ w. i.end ≤ length w.units) (sym (g.met.Input.ExecutorInput.shows context.input))
           (place-lies v (g.met.Input.InputIndexer.are_of_kind context.input) i.end inside.0.1) in
           let from : c.args.position ≤ i.start = finds-from (program_of context.program.now) (input_of v) (moves v) found in
