@@ -402,9 +402,9 @@ static inline int32_t regress_pattern_text(regress_pattern *pattern, char *buffe
  *
  * A pattern is linear that has no back reference; whose repetitions have no greatest number, or 1, and a least number of 0 or 1, or are
  * of one character and have numbers up to 256; in which nothing that may be empty is repeated; and whose lookarounds are negated, or have
- * no groups or no quantifiers inside, or quantifiers of single characters where they are visited at most once: behind a `^` without `m`
- * that begins the pattern, with no other quantifier before. Its program has at most 65,536 instructions. Where memory is refused the answer
- * is REGRESS_OUT_OF_MEMORY, or 0. The caller keeps: no other call has the handle. */
+ * no groups or no quantifiers inside, or are visited at most once: inside of nothing that is repeated, in a pattern that begins with a `^`
+ * without `m`. Where more than a character is repeated in such a one, it holds no other lookaround with groups. Its program has at most
+ * 65,536 instructions. Where memory is refused the answer is REGRESS_OUT_OF_MEMORY, or 0. The caller keeps: no other call has the handle. */
 static inline int32_t regress_is_linear(regress_pattern *pattern) {
   return pattern == NULL ? REGRESS_NULL : regress_raw_is_linear(pattern);
 }

@@ -394,9 +394,10 @@ class Pattern:
 
         A pattern is linear that has no back reference; whose repetitions have no greatest number, or 1, and a least number of 0 or 1,
         or are of one character and have numbers up to 256; in which nothing that may be empty is repeated; and whose lookarounds are
-        negated, or have no groups or no quantifiers inside, or quantifiers of single characters where they are visited at most once:
-        behind a `^` without `m` that begins the pattern, with no other quantifier before. Its program has at most 65,536 instructions.
-        Where memory for the tables is refused it isn't known to be. To work it out takes less time than compiling did.
+        negated, or have no groups or no quantifiers inside, or are visited at most once: inside of nothing that is repeated, in a
+        pattern that begins with a `^` without `m`. Where more than a character is repeated in such a one, it holds no other lookaround
+        with groups. Its program has at most 65,536 instructions. Where memory for the tables is refused it isn't known to be. To work
+        it out takes less time than compiling did.
         """
         code = _is_linear(self._compiled)
         _check(code)

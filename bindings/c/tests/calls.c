@@ -152,8 +152,8 @@ static int32_t linear(const char *source, size_t *steps) {
 }
 
 static void asking_linear(void) {
-  static const char *const linear_ones[] = {"(a|ab)*c", "a{3,9}b", "(?:ab){2,3}", "(?<!a)b", "(?!(a)b)[^]", "(?=(a))b", "(?<=(a)|(b))c", "(?>a|bc)c", "(?<=(?=a)a)b", "(?>a+)b", "(?>(?:a|b)+)c", "", "^(\\w|\\w\\w)*!$"};
-  static const char *const others[] = {"(a)\\1", "(?:ab){2,30}", "(?:a*)*b", "(?=(a*))b", "[^]{257}"};
+  static const char *const linear_ones[] = {"(a|ab)*c", "a{3,9}b", "(?:ab){2,3}", "(?<!a)b", "(?!(a)b)[^]", "(?=(a))b", "(?<=(a)|(b))c", "(?>a|bc)c", "(?<=(?=a)a)b", "(?>a+)b", "(?>(?:a|b)+)c", "^(?=((?:ab)*c))(?=((?:a|b)*))", "", "^(\\w|\\w\\w)*!$"};
+  static const char *const others[] = {"(a)\\1", "(?:ab){2,30}", "(?:a*)*b", "(?=(a*))b", "^(?:(?=((?:ab)*c))a)*", "[^]{257}"};
   regress_handle nothing = {0}, ab = {0};
   size_t steps = 7, fewer;
   CHECK(regress_compile(TEXT("(a|ab)*c"), "", &tables, &ab, NULL) == REGRESS_OK);

@@ -268,7 +268,17 @@ const HOSTILE: &[HostileRow] = &[
     ("(?>(?:a|b)+)c", "", "ab", 10_000, "", None),
     ("(?>(?:a|b)+)c", "", "ab", 10_000, "c", Some((0, 20_001))),
     ("(?:(?>(?:a|ab)*)b)*c", "", "a", 20_000, "", None),
-    // What is visited once may have loops of one character.
+    // What is visited once may have loops.
+    ("^(?=((?:a|ab)*)c)", "", "ab", 10_000, "", None),
+    ("^(?=((?:a|ab)*)c)", "", "ab", 10_000, "c", Some((0, 0))),
+    (
+        "^(?=((?:a|b)*c))(?=((?:b|a)+)c).",
+        "",
+        "ab",
+        10_000,
+        "c",
+        Some((0, 1)),
+    ),
     (
         "^(?=(.*b))(?=.*([ac])).{8,}$",
         "",

@@ -50,9 +50,10 @@ impl Regex {
     ///
     /// A pattern is linear that has no back reference; whose repetitions may go on without end or are of one iteration at most, with a least
     /// number of 0 or 1, or are of one character and have numbers up to 256; in which what is repeated can't be empty; and whose lookarounds
-    /// are negated, or have no groups or no quantifiers inside, or quantifiers of single characters where they are visited at most once:
-    /// behind a `^` without `m` that begins the pattern, with no other quantifier before. Its program has at most 65,536 instructions. What has
-    /// to be repeated more often is written out where it is short, so `(?:ab){2,}` is linear too.
+    /// are negated, or have no groups or no quantifiers inside, or are visited at most once: inside of nothing that is repeated, in a pattern
+    /// that begins with a `^` without `m`. Where more than a character is repeated in such a one, it holds no other lookaround with groups.
+    /// Its program has at most 65,536 instructions. What has to be repeated more often is written out where it is short, so `(?:ab){2,}` is
+    /// linear too.
     ///
     /// ```rust
     /// let mut regex = Regex::with_flags(alloc, "(a|ab)*c", Flags::default(), &tables)?;
