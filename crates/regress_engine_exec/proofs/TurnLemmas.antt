@@ -24,7 +24,7 @@ use Rattle.regress_engine_search.specs.Search.{IsSearchable}
 use Rattle.regress_engine_memory.specs.Flow.{Flow, Hands, Writes, IsToldOf, BeginsAnew, Flows}
 use Rattle.regress_engine_linear.specs.Ranks.{Ranking, Lowers, Inside, IsCycle, Ranks, asked_less}
 use Rattle.regress_engine_linear.specs.RankTables.{ArePlaced, Heights, IsBefore, address_at, level_at, ranking_of}
-use Rattle.regress_engine_linear.specs.Linear.{AreFew, AreLoopFree, IsLinear, IsUnboundedOrOnce, LeavesGroups, StayInside, few, is_visited_once, leads_through, stays_inside, too_long}
+use Rattle.regress_engine_linear.specs.Linear.{AreFew, AreLeaving, AreLoopFree, IsLinear, IsUnboundedOrOnce, LeavesGroups, MayLoop, StayInside, few, is_visited_once, leads_through, leaves_none, repeats_inside, stays_inside, too_long}
 use Rattle.regress_engine_linear.specs.LinearViews.{flow_in, heights_in}
 use Rattle.regress_engine_linear.specs.Answered.{Ends}
 use Rattle.regress_engine_linear.specs.declared.testing.LinearTable.{LinearTable}
@@ -249,11 +249,25 @@ stay-anyway program at first last continuation t = record {
   stays = λ b i after ahead here. ∥∥₁_elim t (bool-set (stays_inside first last at continuation b i) true) (λ x. x.stays b i after ahead here);
 }
 
+loops-anyway : (program : Program) (at first last continuation : ℕ) → ∥ MayLoop program at first last continuation ∥₁ → MayLoop program at first last continuation
+loops-anyway program at first last continuation t = record {
+  once = ∥∥₁_elim t (bool-set (is_visited_once program at) true) (λ x. x.once);
+  stay = stay-anyway program at first last continuation (∥∥₁_map t (λ x. x.stay));
+  alone = λ b i after ahead here. ∥∥₁_elim t (bool-set (leaves_none i) true) (λ x. x.alone b i after ahead here);
+}
+
+-- of contents with a repetition of more than a character, or without
+leaving-anyway : (repeats : Bool) (h : Heights) (program : Program) (at first last continuation : ℕ) → ∥ AreLeaving repeats h program at first last continuation ∥₁
+    → AreLeaving repeats h program at first last continuation
+leaving-anyway true h program at first last continuation t = loops-anyway program at first last continuation t
+leaving-anyway false h program at first last continuation t =
+    (free-anyway program (is_visited_once program at) at first last continuation (∥∥₁_map t (λ x. x.0)), ∥∥₁_elim t le_prop (λ x. x.1))
+
 leaves-anyway : (h : Heights) (program : Program) (at : ℕ) (kind : Submatch) (first last continuation : ℕ) → ∥ LeavesGroups h program at kind first last continuation ∥₁
     → LeavesGroups h program at kind first last continuation
 leaves-anyway h program at (lookaround true backward) first last continuation t = tt
 leaves-anyway h program at (lookaround false backward) first last continuation t =
-    λ some. (free-anyway program (is_visited_once program at) at first last continuation (∥∥₁_map t (λ x. (x some).0)), ∥∥₁_elim t le_prop (λ x. (x some).1))
+    λ some. leaving-anyway (repeats_inside program at continuation) h program at first last continuation (∥∥₁_map t (λ x. x some))
 leaves-anyway h program at atomic first last continuation t = stay-anyway program at first last continuation t
 
 -- one of two addresses is worked out before the other
@@ -290,6 +304,7 @@ linear-anyway flow h program t = record {
   unbounded = λ at f here. bounded-anyway f (∥∥₁_map t (λ x. x.unbounded at f here));
   counts = λ at least most greedy here. few-anyway least most (∥∥₁_map t (λ x. x.counts at least most greedy here));
   leaves = λ at first last continuation kind here. leaves-anyway h program at kind first last continuation (∥∥₁_map t (λ x. x.leaves at first last continuation kind here));
+  once = ∥∥₁_elim t le_prop (λ x. x.once);
 }
 
 -- ---- what is told of a text

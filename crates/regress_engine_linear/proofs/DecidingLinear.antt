@@ -1,6 +1,6 @@
 -- A program that passes the test is linear.
 use Rattle.std.specs.Prelude.{IfSome, nat_le, nat_lt}
-use Rattle.std.proofs.Common.{◌≡◌, ℕ, suc, ◌+◌, ◌-◌, ◌<◌, ◌≤◌, ◌⊎◌, inl, inr, ◌&&◌, ◌||◌, ◌==◌, Bool, true, false, List, [], ◌∷◌, length, get_or, Option, Some, subst, arith}
+use Rattle.std.proofs.Common.{◌≡◌, ℕ, suc, ◌+◌, ◌-◌, ◌<◌, ◌≤◌, ◌⊎◌, inl, inr, ◌&&◌, ◌||◌, ◌==◌, Bool, true, false, List, [], ◌∷◌, length, get_or, Option, Some, if◌then◌else◌, subst, arith}
 use Rattle.std.proofs.lemmas.Bool.{and_parts, or_cases, eqb-true, ltb-true, leb-true}
 use Rattle.std.proofs.lemmas.Option.{slice_get-get_or}
 use Rattle.regress_meaning.specs.Text.{holds}
@@ -11,8 +11,8 @@ use Rattle.regress_engine_memory.specs.Deciding.{Table, calm_at, flow_of, is_flo
 use Rattle.regress_engine_memory.specs.Passing.{all_pass}
 use Rattle.regress_engine_memory.proofs.Deciding.{decides}
 use Rattle.regress_engine_memory.proofs.TableLemmas.{each-passes}
-use Rattle.regress_engine_linear.specs.Linear.{AreFew, AreLoopFree, IsLinear, LeavesGroups, StayInside, few, is_visited_once, too_long}
-use Rattle.regress_engine_linear.specs.LinearTests.{are_allowed, have_ranks, fits_at, is_allowed, is_allowed_inside, is_fit, is_unbounded, leaves_groups, may_stand}
+use Rattle.regress_engine_linear.specs.Linear.{AreFew, AreLeaving, AreLoopFree, IsLinear, LeavesGroups, MayLoop, StayInside, few, is_visited_once, leaves_none, loop_sizes, repeats_inside, too_long}
+use Rattle.regress_engine_linear.specs.LinearTests.{are_allowed, are_short, have_ranks, fits_at, is_allowed, is_allowed_inside, is_alone, is_fit, is_unbounded, leaves_groups, may_loop, may_stand}
 use Rattle.regress_engine_linear.specs.RankTables.{Heights, ArePlaced, are_ranked, forward_at, rank_at}
 use Rattle.regress_engine_linear.proofs.Ranking.{ranks-decide}
 
@@ -21,7 +21,8 @@ pub if-some : {T : Type 0} (P : T → Type 0) (x : Option T) (y : T) → x ≡ S
 if-some P x y e known = subst (λ z. IfSome z P) e known
 
 module _ (t : Table) (h : Heights) (program : Program) (flows : is_flow t program ≡ true) (ranked : are_ranked h t program ≡ true) (placed : ArePlaced h (length program.instructions))
-    (fit : is_fit t h program ≡ true) (leave : all_pass (leaves_groups h program) 0 program.instructions ≡ true) where
+    (fit : is_fit t h program ≡ true) (leave : all_pass (leaves_groups h program) 0 program.instructions ≡ true)
+    (short : are_short program ≡ true) where
   abbrev rest : Bool
   rest = (length (live_at t 0) == 0) && (forward_at h 0 && (nat_lt 0 (length h.ranks) && ((length h.ranks == length program.instructions) && (length h.order == length program.instructions))))
 
@@ -52,23 +53,24 @@ module _ (t : Table) (h : Heights) (program : Program) (flows : is_flow t progra
     | inr is ↦ inr (eqb-true most 1 is)
   ]
 
+  -- what is so inside is so of what stands there
+  inside : (at end k : ℕ) (b : Bool) → at < k → k < end → (nat_le k at || (nat_le end k || b)) ≡ true → b ≡ true
+  inside at end k b after ahead passes = elim (or_cases (nat_le k at) (nat_le end k || b) passes) [
+    | inl low ↦ let x = leb-true k at low in absurd (omega (arith, x, after))
+    | inr others ↦ elim (or_cases (nat_le end k) b others) [
+      | inl high ↦ let x = leb-true end k high in absurd (omega (arith, x, ahead))
+      | inr is ↦ is
+    ]
+  ]
+
   allowed : (loops singles : Bool) (at first last end : ℕ) → are_allowed program loops singles at first last end ≡ true
       → (suc at < end) × ((b : ℕ) (i : Instruction) → at < b → b < end → Stands program b i → is_allowed loops singles at first last end b i ≡ true)
   allowed loops singles at first last end e =
       let a = and_parts (nat_lt (suc at) end) (all_pass (is_allowed_inside loops singles at first last end) 0 program.instructions) e in (
         ltb-true (suc at) end a.0,
-        λ k i after ahead here. inside k i after ahead (each-passes (is_allowed_inside loops singles at first last end) program a.1 k i here),
+        λ k i after ahead here. inside at end k (is_allowed loops singles at first last end k i) after ahead
+            (each-passes (is_allowed_inside loops singles at first last end) program a.1 k i here),
       )
-    where
-      inside : (k : ℕ) (i : Instruction) → at < k → k < end → ((nat_le k at || nat_le end k) || is_allowed loops singles at first last end k i) ≡ true
-          → is_allowed loops singles at first last end k i ≡ true
-      inside k i after ahead passes = elim (or_cases (nat_le k at || nat_le end k) (is_allowed loops singles at first last end k i) passes) [
-        | inl out ↦ elim (or_cases (nat_le k at) (nat_le end k) out) [
-          | inl low ↦ let x = leb-true k at low in absurd (omega (arith, x, after))
-          | inr high ↦ let x = leb-true end k high in absurd (omega (arith, x, ahead))
-        ]
-        | inr is ↦ is
-      ]
 
   loop-free : (singles : Bool) (at first last end : ℕ) → are_allowed program false singles at first last end ≡ true → AreLoopFree program singles at first last end
   loop-free singles at first last end e = let (some, leads) = allowed false singles at first last end e in record { some = some; leads = leads }
@@ -76,13 +78,32 @@ module _ (t : Table) (h : Heights) (program : Program) (flows : is_flow t progra
   stay : (at first last end : ℕ) → are_allowed program true false at first last end ≡ true → StayInside program at first last end
   stay at first last end e = let (some, stays) = allowed true false at first last end e in record { some = some; stays = stays }
 
+  loops : (at first last end : ℕ) → may_loop program at end first last ≡ true → MayLoop program at first last end
+  loops at first last end e =
+      let a = and_parts (is_visited_once program at) (are_allowed program true false at first last end && all_pass (is_alone program at end) 0 program.instructions) e in
+      let b = and_parts (are_allowed program true false at first last end) (all_pass (is_alone program at end) 0 program.instructions) a.1 in
+      record {
+        once = a.0;
+        stay = stay at first last end b.0;
+        alone = λ k i after ahead here. inside at end k (leaves_none i) after ahead (each-passes (is_alone program at end) program b.1 k i here);
+      }
+
+  -- of contents with a repetition of more than a character, or without
+  leaving-so : (repeats : Bool) (at first last end : ℕ) → (if repeats then may_loop program at end first last
+      else (are_allowed program false (is_visited_once program at) at first last end && have_ranks h at end)) ≡ true
+      → AreLeaving repeats h program at first last end
+  leaving-so true at first last end e = loops at first last end e
+  leaving-so false at first last end e =
+      let (free, high) = and_parts (are_allowed program false (is_visited_once program at) at first last end) (have_ranks h at end) e in
+      (loop-free (is_visited_once program at) at first last end free, leb-true (rank_at h end + (end - at)) (rank_at h at) high)
+
   leaving : (at first last end : ℕ) (kind : Submatch) → Stands program at (code.submatch kind first last end) → LeavesGroups h program at kind first last end
   leaving at first last end (lookaround true backward) here = tt
-  leaving at first last end (lookaround false backward) here = λ some. elim (or_cases (nat_le last first) (are_allowed program false (is_visited_once program at) at first last end && have_ranks h at end)
+  leaving at first last end (lookaround false backward) here = λ some. elim (or_cases (nat_le last first) (if repeats_inside program at end then may_loop program at end first last
+      else (are_allowed program false (is_visited_once program at) at first last end && have_ranks h at end))
       (each-passes (leaves_groups h program) program leave at (code.submatch (lookaround false backward) first last end) here)) [
         | inl none ↦ let x = leb-true last first none in absurd (omega (arith, x, some))
-        | inr both ↦ let (free, high) = and_parts (are_allowed program false (is_visited_once program at) at first last end) (have_ranks h at end) both in
-            (loop-free (is_visited_once program at) at first last end free, leb-true (rank_at h end + (end - at)) (rank_at h at) high)
+        | inr so ↦ leaving-so (repeats_inside program at end) at first last end so
       ]
   leaving at first last end atomic here = stay at first last end (each-passes (leaves_groups h program) program leave at (code.submatch atomic first last end) here)
 
@@ -108,4 +129,5 @@ module _ (t : Table) (h : Heights) (program : Program) (flows : is_flow t progra
         unbounded = λ at f here. bounded f.most (one at (code.enter_loop f) here).1;
         counts = λ at least most greedy here. counted least most (one at (code.single_loop least most greedy) here).1;
         leaves = leaving;
+        once = leb-true (loop_sizes program 0 program.instructions) (length program.instructions) short;
       }

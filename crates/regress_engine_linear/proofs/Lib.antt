@@ -12,5 +12,5 @@ pub mod DecidingLinear
 pub mod PassageLemmas
 pub mod WorkLemmas
 pub mod LevelLemmas
-pub mod BehindLemmas
+pub mod OnceLemmas
 pub mod InsideLemmas

@@ -12,28 +12,32 @@ use Rattle.regress_engine_insn.specs.declared.insn.Insn.TheVariants.{Goal}
 use Rattle.regress_engine_memory.specs.Passing.{all_pass}
 use Rattle.regress_engine_memory.proofs.TableLemmas.{tested, tested-end, tested-on}
 use Rattle.regress_engine_linear.specs.Linear.{leads_through, stays_inside}
-use Rattle.regress_engine_linear.specs.LinearTests.{is_allowed, is_allowed_inside}
+use Rattle.regress_engine_linear.specs.LinearTests.{is_asked, is_asked_inside}
+use Rattle.regress_engine_linear.specs.declared.contents.Asked.{Asked}
 
-module _ (loops singles : Bool) (at first last end : ℕ) where
+module _ (asked : Asked) (at first last end : ℕ) where
   abbrev test : ℕ → Instruction → Bool
-  test = is_allowed_inside loops singles at first last end
+  test = is_asked_inside asked at first last end
+
+  abbrev has : ℕ → Instruction → Bool
+  has = is_asked asked at first last end
 
   -- what stands before passes
   before-passes : (b : ℕ) (i : Instruction) → b ≤ at → test b i ≡ true
-  before-passes b i low = ap (λ (x : Bool). (x || nat_le end b) || is_allowed loops singles at first last end b i) (le-leb b at low)
+  before-passes b i low = ap (λ (x : Bool). x || (nat_le end b || has b i)) (le-leb b at low)
 
   -- what stands behind passes
   behind-passes : (b : ℕ) (i : Instruction) → end ≤ b → test b i ≡ true
-  behind-passes b i high = by_value (nat_le b at) (is_allowed loops singles at first last end b i) (le-leb end b high)
+  behind-passes b i high = by_value (nat_le b at) (has b i) (le-leb end b high)
     where
-      by_value : (x y : Bool) → nat_le end b ≡ true → ((x || nat_le end b) || y) ≡ true
+      by_value : (x y : Bool) → nat_le end b ≡ true → (x || (nat_le end b || y)) ≡ true
       by_value true y e = refl
       by_value false y e = ap (λ (z : Bool). z || y) e
 
-  -- what stands inside passes if it is allowed
-  pub inside-is : (b : ℕ) (i : Instruction) → at < b → b < end → test b i ≡ is_allowed loops singles at first last end b i
+  -- what stands inside passes if it is as it is asked to be
+  pub inside-is : (b : ℕ) (i : Instruction) → at < b → b < end → test b i ≡ has b i
   inside-is b i after ahead = let x : nat_le b at ≡ false = grind (arith, nat_tests) in let y : nat_le end b ≡ false = grind (arith, nat_tests) in
-      ap₂ (λ (p q : Bool). (p || q) || is_allowed loops singles at first last end b i) x y
+      ap₂ (λ (p q : Bool). p || (q || has b i)) x y
 
   all-behind : (b : ℕ) (is : List Instruction) → end ≤ b → all_pass test b is ≡ true
   all-behind b [] high = refl

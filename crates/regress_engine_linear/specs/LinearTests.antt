@@ -1,12 +1,19 @@
 -- The test that a program is linear.
-use Rattle.std.specs.Prelude.{ℕ, suc, ◌+◌, ◌-◌, ◌&&◌, ◌||◌, ◌==◌, if◌then◌else◌, Bool, true, false, length, nat_le, nat_lt}
+use Rattle.std.specs.Prelude.{◌≡◌, ℕ, suc, ◌+◌, ◌-◌, ◌<◌, ◌&&◌, ◌||◌, ◌==◌, if◌then◌else◌, Bool, true, false, not, List, get_or, length, nat_le, nat_lt}
 use Rattle.regress_front_nodes.specs.Trees.{lookaround, atomic}
 use Rattle.regress_engine_insn.specs.Instructions.{Instruction, Program}
 use Rattle.regress_engine_insn.specs.Instructions as code
 use Rattle.regress_engine_memory.specs.Deciding.{Table, calm_at, live_at}
 use Rattle.regress_engine_memory.specs.Passing.{all_pass}
-use Rattle.regress_engine_linear.specs.Linear.{few, is_visited_once, leads_through, leaves_none, loop_sizes, repeats_inside, stays_inside, too_long}
+use Rattle.regress_engine_linear.specs.Linear.{few, is_visited_once, leads_through, leaves_none, loop_sizes, repeats, repeats_inside, stays_inside, too_long}
 use Rattle.regress_engine_linear.specs.RankTables.{Heights, forward_at, rank_at}
+use Rattle.regress_engine_linear.specs.declared.contents.Asked.{Asked}
+use Rattle.regress_engine_linear.specs.declared.contents.Asked.TheVariants.{Through, Stay, NoRepetition, NoGroups}
+
+-- for each address of a program it is told whether it is visited at most once
+pub record AreOnce (once : List Bool) (program : Program) : Type 0 where
+  pub count : length once ≡ length program.instructions
+  pub each : (at : ℕ) → at < length program.instructions → get_or once at false ≡ is_visited_once program at
 
 -- a greatest number is one that no text can reach
 abbrev pub is_unbounded : ℕ → Bool
@@ -35,12 +42,23 @@ is_allowed false singles at first last end b i = leads_through singles first las
 
 -- it stands outside of contents, from behind one address up to before another, or is allowed there
 abbrev pub is_allowed_inside : (loops singles : Bool) → (at first last end : ℕ) → (b : ℕ) → Instruction → Bool
-is_allowed_inside loops singles at first last end b i = (nat_le b at || nat_le end b) || is_allowed loops singles at first last end b i
+is_allowed_inside loops singles at first last end b i = nat_le b at || (nat_le end b || is_allowed loops singles at first last end b i)
 
 -- there are contents, and each instruction inside is allowed
 abbrev pub are_allowed : Program → (loops singles : Bool) → (at first last continuation : ℕ) → Bool
 are_allowed program loops singles at first last continuation =
     nat_lt (suc at) continuation && all_pass (is_allowed_inside loops singles at first last continuation) 0 program.instructions
+
+-- an instruction inside of contents is as it is asked to be
+abbrev pub is_asked : Asked → (at first last end : ℕ) → (b : ℕ) → Instruction → Bool
+is_asked (Through singles) at first last end b i = leads_through singles first last end b i
+is_asked Stay at first last end b i = stays_inside first last at end b i
+is_asked NoRepetition at first last end b i = not (repeats i)
+is_asked NoGroups at first last end b i = leaves_none i
+
+-- it stands outside of them, or is so
+abbrev pub is_asked_inside : Asked → (at first last end : ℕ) → (b : ℕ) → Instruction → Bool
+is_asked_inside asked at first last end b i = nat_le b at || (nat_le end b || is_asked asked at first last end b i)
 
 -- as many ranks as they have instructions lie between where they stand and where it goes on behind them
 abbrev pub have_ranks : Heights → (at continuation : ℕ) → Bool
@@ -60,10 +78,10 @@ module _ (h : Heights) (program : Program) where
   abbrev pub leaves_groups : (at : ℕ) → Instruction → Bool
   leaves_groups at (code.submatch (lookaround false backward) first last continuation) = nat_le last first
       || (if repeats_inside program at continuation then may_loop program at continuation first last
-          else (are_allowed program false (is_visited_once program at) at first last continuation && have_ranks h at continuation))
+      else (are_allowed program false (is_visited_once program at) at first last continuation && have_ranks h at continuation))
   leaves_groups at (code.submatch atomic first last continuation) = are_allowed program true false at first last continuation
   leaves_groups at i = true
 
-  -- lookarounds whose contents have loops, and which leave groups, are together no longer than the program
-  abbrev pub are_short : Bool
-  are_short = nat_le (loop_sizes program 0 program.instructions) (length program.instructions)
+-- lookarounds whose contents have loops, and which leave groups, are together no longer than the program
+abbrev pub are_short : Program → Bool
+are_short program = nat_le (loop_sizes program 0 program.instructions) (length program.instructions)

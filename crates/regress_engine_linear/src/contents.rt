@@ -1,10 +1,11 @@
-//! The test that a way through the contents of lookarounds is as short as they are, and that none leads out of those of atomic groups.
-ghost use Rattle.std.specs.Prelude.{◌≡◌, ◌&&◌, suc, ◌+◌, ◌-◌, ◌^◌, ◌<◌, length, map, nat_le, nat_lt, ◌||◌, slice_get};
+//! The test that a way through the contents of lookarounds is as short as they are, or that they are visited at most once, and that none leads
+//! out of those of atomic groups.
+ghost use Rattle.std.specs.Prelude.{◌≡◌, ◌&&◌, suc, ◌+◌, ◌-◌, ◌^◌, ◌<◌, false, if◌then◌else◌, length, map, nat_le, nat_lt, ◌||◌};
 ghost use Rattle.regress_engine_insn.specs.Instructions.{Program};
 ghost use Rattle.regress_engine_insn.specs.InsnViews.{instruction};
 ghost use Rattle.regress_engine_memory.specs.Passing.{all_pass};
-ghost use Rattle.regress_engine_linear.specs.Linear.{is_text_start, leads_through, once_until, repeats, stays_inside};
-ghost use Rattle.regress_engine_linear.specs.LinearTests.{are_allowed, have_ranks, is_allowed, is_allowed_inside, leaves_groups};
+ghost use Rattle.regress_engine_linear.specs.Linear.{is_visited_once, leads_through, leaves_none, loop_size, repeats, repeats_inside, stays_inside};
+ghost use Rattle.regress_engine_linear.specs.LinearTests.{AreOnce, are_allowed, are_short, have_ranks, is_asked, is_asked_inside, leaves_groups, may_loop};
 ghost use Rattle.regress_engine_linear.specs.RankTables.{heights_of, rank_at};
 
 use crate::ranks::RankTable;
@@ -22,17 +23,22 @@ struct Passage {
     last: usize,
     /// The address behind them.
     end: usize,
-    /// Whether any loops may stand inside.
-    loops: bool,
-    /// Whether loops of one character may stand inside.
-    singles: bool,
 }
 
-/// Whether the program begins at the start of the text.
-fn begins_at_start(insns: &[Insn]) -> bool
-    ensures { result ≡ is_text_start (slice_get (map instruction insns.now) 0) }
-{
-    matches!(insns.first(), Some(Insn::StartOfLine { multiline: false }))
+/// What may be asked of each instruction inside of contents.
+#[derive(Debug, Clone, Copy)]
+enum Asked {
+    /// It is no repetition, but of one character where such may stand, leads further and not past the end, and writes groups inside alone.
+    Through {
+        /// Whether loops of one character may stand inside.
+        singles: bool,
+    },
+    /// Each address that it leads to is inside, and each group that it writes.
+    Stay,
+    /// It begins no repetition of more than one character.
+    NoRepetition,
+    /// It is no lookaround that leaves groups.
+    NoGroups,
 }
 
 /// Whether an instruction begins a repetition of more than one character.
@@ -42,20 +48,25 @@ fn repeats(insn: &Insn) -> bool
     matches!(insn, Insn::EnterLoop(_))
 }
 
-/// The address up to which each is visited at most once: the one behind the first at which a repetition begins, if a match begins at the
-/// start of the text alone.
-pub(crate) fn once_until(insns: &[Insn]) -> usize
-    ensures { (program : Program) → program.instructions ≡ map instruction insns.now → result ≡ once_until program }
+/// Whether an instruction is no lookaround that leaves groups.
+fn leaves_none(insn: &Insn) -> bool
+    ensures { result ≡ leaves_none (instruction insn.now) }
 {
-    if !begins_at_start(insns) {
-        return 0;
-    }
-    for at in 0..insns.len() {
-        if repeats(&insns[at]) {
-            return at + 1;
+    match insn {
+        Insn::Lookahead {
+            negate: false,
+            start_group,
+            end_group,
+            ..
         }
+        | Insn::Lookbehind {
+            negate: false,
+            start_group,
+            end_group,
+            ..
+        } => *end_group <= *start_group,
+        _ => true,
     }
-    insns.len()
 }
 
 impl Passage {
@@ -98,14 +109,14 @@ impl Passage {
 
     /// Whether an instruction at an address inside is no repetition, but of one character where such may stand, leads further and not past the
     /// end, and writes groups inside alone.
-    fn leads_through(&self, at: usize, insn: &Insn) -> bool
+    fn leads_through(&self, singles: bool, at: usize, insn: &Insn) -> bool
         requires { at + 2 < 2 ^ 64 }
-        ensures { result ≡ leads_through self.now.singles self.now.first self.now.last self.now.end at (instruction insn.now) }
+        ensures { result ≡ leads_through singles self.now.first self.now.last self.now.end at (instruction insn.now) }
     {
         match insn {
             Insn::Goal | Insn::JustFail => true,
             Insn::BackRef { .. } | Insn::EnterLoop(_) | Insn::LoopAgain { .. } => false,
-            Insn::Loop1CharBody { .. } => self.singles && at + 2 < self.end,
+            Insn::Loop1CharBody { .. } => singles && at + 2 < self.end,
             Insn::Jump { target } => self.is_on(at, *target as usize),
             Insn::Alt { secondary } => at + 1 < self.end && self.is_on(at, *secondary as usize),
             Insn::BeginCaptureGroup(group)
@@ -178,40 +189,108 @@ impl Passage {
         }
     }
 
-    /// Whether an instruction is allowed inside.
-    fn allows(&self, at: usize, insn: &Insn) -> bool
+    /// Whether an instruction inside is as it is asked to be.
+    fn is_asked(&self, asked: Asked, at: usize, insn: &Insn) -> bool
         requires { at + 2 < 2 ^ 64 }
-        ensures { result ≡ is_allowed self.now.loops self.now.singles self.now.at self.now.first self.now.last self.now.end at (instruction insn.now) }
+        ensures { result ≡ is_asked asked self.now.at self.now.first self.now.last self.now.end at (instruction insn.now) }
     {
-        if self.loops {
-            self.stays_inside(at, insn)
-        } else {
-            self.leads_through(at, insn)
+        match asked {
+            Asked::Through { singles } => self.leads_through(singles, at, insn),
+            Asked::Stay => self.stays_inside(at, insn),
+            Asked::NoRepetition => !repeats(insn),
+            Asked::NoGroups => leaves_none(insn),
         }
     }
 
     /// Whether each instruction inside is.
-    fn allows_each(&self, insns: &[Insn]) -> bool
+    fn are_asked(&self, asked: Asked, insns: &[Insn]) -> bool
         requires { self.now.at < length insns.now }
         ensures { (program : Program) → program.instructions ≡ map instruction insns.now
-            → result ≡ all_pass (is_allowed_inside self.now.loops self.now.singles self.now.at self.now.first self.now.last self.now.end) 0 program.instructions }
+            → result ≡ all_pass (is_asked_inside asked self.now.at self.now.first self.now.last self.now.end) 0 program.instructions }
     {
         for at in self.at + 1..self.end.min(insns.len()) {
-            if !self.allows(at, &insns[at]) {
+            if !self.is_asked(asked, at, &insns[at]) {
                 return false;
             }
         }
         true
     }
 
-    /// Whether there are contents, and each instruction inside is allowed.
-    fn are_allowed(&self, insns: &[Insn]) -> bool
+    /// Whether there are contents, and each instruction inside is as it is asked to be.
+    fn are_allowed(&self, asked: Asked, insns: &[Insn]) -> bool
         requires { self.now.at < length insns.now }
         ensures { (program : Program) → program.instructions ≡ map instruction insns.now
-            → result ≡ are_allowed program self.now.loops self.now.singles self.now.at self.now.first self.now.last self.now.end }
+            → result ≡ (nat_lt (suc self.now.at) self.now.end && all_pass (is_asked_inside asked self.now.at self.now.first self.now.last self.now.end) 0 program.instructions) }
     {
-        self.at + 1 < self.end && self.allows_each(insns)
+        self.at + 1 < self.end && self.are_asked(asked, insns)
     }
+
+    /// Whether a repetition of more than one character begins inside.
+    fn repeats_inside(&self, insns: &[Insn]) -> bool
+        requires { self.now.at < length insns.now }
+        ensures { (program : Program) → program.instructions ≡ map instruction insns.now → result ≡ repeats_inside program self.now.at self.now.end }
+    {
+        !self.are_asked(Asked::NoRepetition, insns)
+    }
+
+    /// Whether any loops may stand inside: the contents are visited at most once, no way leads out of them, and no lookaround inside leaves
+    /// groups.
+    fn may_loop(&self, insns: &[Insn], once: bool) -> bool
+        requires { self.now.at < length insns.now }
+        ensures { (program : Program) → program.instructions ≡ map instruction insns.now
+            → once ≡ is_visited_once program self.now.at → result ≡ may_loop program self.now.at self.now.end self.now.first self.now.last }
+    {
+        once && (self.are_allowed(Asked::Stay, insns) && self.are_asked(Asked::NoGroups, insns))
+    }
+}
+
+/// So many addresses has a lookaround whose contents have loops, with its own, if it leaves groups.
+fn loop_size(insns: &[Insn], at: usize, insn: &Insn) -> usize
+    requires { at < length insns.now }
+    ensures { (program : Program) → program.instructions ≡ map instruction insns.now → result ≡ loop_size program at (instruction insn.now) }
+{
+    match insn {
+        Insn::Lookahead {
+            negate: false,
+            start_group,
+            end_group,
+            continuation,
+        }
+        | Insn::Lookbehind {
+            negate: false,
+            start_group,
+            end_group,
+            continuation,
+        } => {
+            let passage = Passage {
+                at,
+                first: *start_group as usize,
+                last: *end_group as usize,
+                end: *continuation as usize,
+            };
+            if passage.first < passage.last && passage.repeats_inside(insns) {
+                passage.end.saturating_sub(at)
+            } else {
+                0
+            }
+        }
+        _ => 0,
+    }
+}
+
+/// Whether lookarounds whose contents have loops, and which leave groups, are together no longer than the program.
+pub(crate) fn are_short(insns: &[Insn]) -> bool
+    ensures { (program : Program) → program.instructions ≡ map instruction insns.now → result ≡ are_short program }
+{
+    let mut left = insns.len();
+    for at in 0..insns.len() {
+        let size = loop_size(insns, at, &insns[at]);
+        if left < size {
+            return false;
+        }
+        left -= size;
+    }
+    true
 }
 
 impl RankTable {
@@ -224,12 +303,30 @@ impl RankTable {
         low <= high && end.saturating_sub(at) <= high - low
     }
 
+    /// Whether contents may leave groups: they have loops and are visited at most once, or have none, and ranks enough.
+    fn may_leave(&self, insns: &[Insn], once: bool, passage: Passage) -> bool
+        requires { passage.at < length insns.now }
+        ensures { (program : Program) → program.instructions ≡ map instruction insns.now → once ≡ is_visited_once program passage.at
+            → result ≡ (if repeats_inside program passage.at passage.end then may_loop program passage.at passage.end passage.first passage.last
+            else (are_allowed program false (is_visited_once program passage.at) passage.at passage.first passage.last passage.end
+            && have_ranks (heights_of self.now) passage.at passage.end)) }
+    {
+        if passage.repeats_inside(insns) {
+            passage.may_loop(insns, once)
+        } else {
+            passage.are_allowed(Asked::Through { singles: once }, insns)
+                && self.have_ranks(passage.at, passage.end)
+        }
+    }
+
     /// Whether what a lookaround or an atomic group at an address leaves is as it has to be: the contents of a lookaround that are gone through
-    /// have no loop, and ranks enough, and no way leads out of those of an atomic group. Up to another address each is visited at most once.
-    fn leaves_groups(&self, insns: &[Insn], once: usize, at: usize, insn: &Insn) -> bool
-        requires { at < length insns.now }
+    /// have no loop, and ranks enough, or are visited at most once, and no way leads out of those of an atomic group. Of each address it is
+    /// told whether it is visited at most once.
+    fn leaves_groups(&self, insns: &[Insn], once: &[bool], at: usize, insn: &Insn) -> bool
+        requires within { at < length insns.now }
+        requires count { length once.now ≡ length insns.now }
         ensures { (program : Program) → program.instructions ≡ map instruction insns.now
-            → once ≡ once_until program → result ≡ leaves_groups (heights_of self.now) program at (instruction insn.now) }
+            → AreOnce once.now program → result ≡ leaves_groups (heights_of self.now) program at (instruction insn.now) }
     {
         match insn {
             Insn::Lookahead {
@@ -249,11 +346,8 @@ impl RankTable {
                     first: *start_group as usize,
                     last: *end_group as usize,
                     end: *continuation as usize,
-                    loops: false,
-                    singles: at < once,
                 };
-                passage.last <= passage.first
-                    || (passage.are_allowed(insns) && self.have_ranks(at, passage.end))
+                passage.last <= passage.first || self.may_leave(insns, once[at], passage)
             }
             Insn::Atomic {
                 start_group,
@@ -265,21 +359,19 @@ impl RankTable {
                     first: *start_group as usize,
                     last: *end_group as usize,
                     end: *continuation as usize,
-                    loops: true,
-                    singles: false,
                 };
-                passage.are_allowed(insns)
+                passage.are_allowed(Asked::Stay, insns)
             }
             _ => true,
         }
     }
 
     /// Whether what each of them leaves is.
-    pub(crate) fn leave_groups(&self, insns: &[Insn]) -> bool
+    pub(crate) fn leave_groups(&self, insns: &[Insn], once: &[bool]) -> bool
+        requires { length once.now ≡ length insns.now }
         ensures { (program : Program) → program.instructions ≡ map instruction insns.now
-            → result ≡ all_pass (leaves_groups (heights_of self.now) program) 0 program.instructions }
+            → AreOnce once.now program → result ≡ all_pass (leaves_groups (heights_of self.now) program) 0 program.instructions }
     {
-        let once = once_until(insns);
         for at in 0..insns.len() {
             if !self.leaves_groups(insns, once, at, &insns[at]) {
                 return false;

@@ -7,6 +7,7 @@ mod levels;
 mod making;
 mod ranks;
 mod testing;
+mod visits;
 
 pub use laws::{
     answers_are_told_by_those_ahead, running_failures_forget, running_states_lead_on,

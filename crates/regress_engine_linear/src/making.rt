@@ -5,7 +5,6 @@ ghost use Rattle.regress_engine_insn.specs.InsnViews.{instruction};
 ghost use Rattle.regress_engine_memory.specs.TableViews.{table_of};
 ghost use Rattle.regress_engine_linear.specs.RankTables.{ArePlaced, are_ranked, heights_of};
 
-use crate::contents::once_until;
 use crate::ranks::RankTable;
 use regress_engine_insn::Insn;
 use regress_engine_memory::{FlowTable, taken_by};
@@ -130,16 +129,16 @@ fn next_loops(alloc: Global, insns: &[Insn], singles: bool) -> Result<Vec<usize>
     Ok(next)
 }
 
-/// The addresses inside of contents of lookarounds in which no repetition begins, but of one character where they are visited at most once.
-fn loop_free(alloc: Global, insns: &[Insn]) -> Result<Vec<bool>, AllocError> {
+/// The addresses inside of contents of lookarounds in which no repetition begins, but of one character where they are visited at most once, as
+/// it is told of each address.
+fn loop_free(alloc: Global, insns: &[Insn], once: &[bool]) -> Result<Vec<bool>, AllocError> {
     let next_any = next_loops(alloc, insns, true)?;
     let next_repetition = next_loops(alloc, insns, false)?;
-    let once = once_until(insns);
     let mut free = Vec::new(alloc);
     let mut end = 0;
     for at in 0..insns.len() {
         free.push(at < end)?;
-        let next = if at < once {
+        let next = if at < once.len() && once[at] {
             &next_repetition
         } else {
             &next_any
@@ -238,8 +237,13 @@ fn suggested_ranks(
 }
 
 /// The addresses of a program by rank: those first to which the instructions of others may lead without taking anything.
-fn by_rank(alloc: Global, insns: &[Insn], outside: &[usize]) -> Result<Vec<usize>, AllocError> {
-    let free = loop_free(alloc, insns)?;
+fn by_rank(
+    alloc: Global,
+    insns: &[Insn],
+    once: &[bool],
+    outside: &[usize],
+) -> Result<Vec<usize>, AllocError> {
+    let free = loop_free(alloc, insns, once)?;
     let mut ranks: Vec<usize> = Vec::new(alloc);
     for _ in 0..MOST_ROUNDS {
         let suggested = suggested_ranks(alloc, insns, &ranks, &free, outside)?;
@@ -298,14 +302,11 @@ fn tops(
 
 impl RankTable {
     /// The table of ranks of a program with so many loops, where each way leads back to an address only by taking something; `None` where
-    /// one does not. It errs only where memory is refused.
-    ///
-    /// ```rust
-    /// let ranks = RankTable::of(alloc, program.insns(), &flow, program.loops() as usize)?;
-    /// ```
-    pub fn of(
+    /// one does not. Of each address it is told whether it is visited at most once. It errs only where memory is refused.
+    pub(crate) fn of(
         alloc: Global,
         insns: &[Insn],
+        once: &[bool],
         flow: &FlowTable,
         loops: usize,
     ) -> Result<Option<RankTable>, AllocError>
@@ -316,7 +317,7 @@ impl RankTable {
         let around = contents_around(alloc, insns)?;
         let outside = outside(alloc, &around)?;
         let levels = levels(alloc, &around)?;
-        let by_rank = by_rank(alloc, insns, &outside)?;
+        let by_rank = by_rank(alloc, insns, once, &outside)?;
         let order = order(alloc, &by_rank, &levels)?;
         let ranks = places(alloc, &by_rank)?;
         let table = RankTable {

@@ -9,7 +9,9 @@ ghost use Rattle.regress_engine_linear.specs.Linear.{IsLinear};
 ghost use Rattle.regress_engine_linear.specs.LinearTests.{fits_at, is_unbounded, may_stand};
 ghost use Rattle.regress_engine_linear.specs.RankTables.{forward_at, heights_of, inside_in};
 
+use crate::contents::are_short;
 use crate::ranks::RankTable;
+use crate::visits::visited_once;
 use regress_engine_insn::Insn;
 use regress_engine_memory::FlowTable;
 use std::alloc::{AllocError, Global};
@@ -114,10 +116,14 @@ impl LinearTable {
         if !are_fit(&flow, insns) {
             return Ok(None);
         }
-        let Some(ranks) = RankTable::of(alloc, insns, &flow, loops)? else {
+        if !are_short(insns) {
+            return Ok(None);
+        }
+        let once = visited_once(alloc, insns)?;
+        let Some(ranks) = RankTable::of(alloc, insns, &once, &flow, loops)? else {
             return Ok(None);
         };
-        if !ranks.leave_groups(insns) {
+        if !ranks.leave_groups(insns, &once) {
             return Ok(None);
         }
         let table = LinearTable {

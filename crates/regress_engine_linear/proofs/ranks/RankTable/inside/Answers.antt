@@ -1,4 +1,4 @@
-use Rattle.std.proofs.Common.{◌≡◌, ◌+◌, ◌<◌, ◌≤◌, true, false, length, get_or, arith}
+use Rattle.std.proofs.Common.{◌<◌, ◌≤◌, true, false, length, get_or, arith}
 use Rattle.std.proofs.lemmas.Bool.{lt-ltb}
 use Rattle.std.proofs.lemmas.Bool.Decides.{nat_tests}
 use Rattle.regress_engine_linear.proofs.InsideLemmas.{below-end, below-few, below-on}

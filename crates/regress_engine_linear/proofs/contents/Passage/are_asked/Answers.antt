@@ -5,20 +5,20 @@ use Rattle.regress_engine_insn.specs.InsnViews.{instruction}
 use Rattle.regress_engine_insn.specs.declared.insn.Insn.TheVariants.{Goal}
 use Rattle.regress_engine_memory.specs.Passing.{all_pass}
 use Rattle.regress_engine_memory.proofs.TableLemmas.{tested-on}
-use Rattle.regress_engine_linear.specs.LinearTests.{is_allowed_inside}
+use Rattle.regress_engine_linear.specs.LinearTests.{is_asked_inside}
 use Rattle.regress_engine_linear.proofs.PassageLemmas.{inside-is, tested-behind, tested-from}
-use Rattle.regress_engine_linear.proofs.contents.Passage.allows_each.Goals as goal
+use Rattle.regress_engine_linear.proofs.contents.Passage.are_asked.Goals as goal
 
 pub loop-at-init : goal.loop-at-init
 loop-at-init c = record {
   left = λ program are.
       let p = c.args.self.now in
       let within = c.requires in
-      tested-from p.loops p.singles p.at p.first p.last p.end c.args.insns.now (p.at + 1) (omega arith) (omega (arith, within)) ∙ ap (all_pass (is_allowed_inside p.loops p.singles p.at p.first p.last p.end) 0) (sym are);
+      tested-from c.args.asked p.at p.first p.last p.end c.args.insns.now (p.at + 1) (omega arith) (omega (arith, within)) ∙ ap (all_pass (is_asked_inside c.args.asked p.at p.first p.last p.end) 0) (sym are);
 }
 
-pub returns-then-not-allows : goal.returns-then-not-allows
-returns-then-not-allows c program are =
+pub returns-then-not-is_asked : goal.returns-then-not-is_asked
+returns-then-not-is_asked c program are =
     let p = c.args.self.now in
     let at = c.loop-at.at in
     let insns = c.args.insns.now in
@@ -26,8 +26,8 @@ returns-then-not-allows c program are =
     let test = c.loop-at-test.true in
     let within : at < length insns = omega (arith, test) in
     let ahead : at < p.end = omega (arith, test) in
-    sym (tested-on (is_allowed_inside p.loops p.singles p.at p.first p.last p.end) insns at Goal false within
-    (inside-is p.loops p.singles p.at p.first p.last p.end at (instruction (get_or insns at Goal)) (omega (arith, low)) ahead ∙ sym c.allows.ensures ∙ c.if-not-allows.true))
+    sym (tested-on (is_asked_inside c.args.asked p.at p.first p.last p.end) insns at Goal false within
+    (inside-is c.args.asked p.at p.first p.last p.end at (instruction (get_or insns at Goal)) (omega (arith, low)) ahead ∙ sym c.is_asked.ensures ∙ c.if-not-is_asked.true))
     ∙ c.loop-at.invariant.left program are
 
 pub loop-at-preserved : goal.loop-at-preserved
@@ -40,8 +40,8 @@ loop-at-preserved c = record {
       let test = c.loop-at-test.true in
       let within : at < length insns = omega (arith, test) in
       let ahead : at < p.end = omega (arith, test) in
-      sym (tested-on (is_allowed_inside p.loops p.singles p.at p.first p.last p.end) insns at Goal true within
-      (inside-is p.loops p.singles p.at p.first p.last p.end at (instruction (get_or insns at Goal)) (omega (arith, low)) ahead ∙ sym c.allows.ensures ∙ c.if-not-allows.false))
+      sym (tested-on (is_asked_inside c.args.asked p.at p.first p.last p.end) insns at Goal true within
+      (inside-is c.args.asked p.at p.first p.last p.end at (instruction (get_or insns at Goal)) (omega (arith, low)) ahead ∙ sym c.is_asked.ensures ∙ c.if-not-is_asked.false))
       ∙ c.loop-at.invariant.left program are;
 }
 
@@ -53,4 +53,4 @@ returns c program are =
       | inl less ↦ inr (omega (arith, past, less))
       | inr high ↦ inl high
     ] in
-    sym (tested-behind p.loops p.singles p.at p.first p.last p.end c.args.insns.now c.loop-at.at over) ∙ c.loop-at.invariant.left program are
+    sym (tested-behind c.args.asked p.at p.first p.last p.end c.args.insns.now c.loop-at.at over) ∙ c.loop-at.invariant.left program are
