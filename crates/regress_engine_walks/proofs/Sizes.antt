@@ -18,8 +18,8 @@ use Rattle.regress_engine_linear.specs.Linear.{AreLeaving, is_text_start, is_vis
 use Rattle.regress_engine_linear.specs.RankTables.{Heights, rank_at}
 use Rattle.regress_engine_ways.specs.Ways.{MayPass, led}
 use Rattle.regress_engine_ways.specs.declared.station.Station.{Station}
-use Rattle.regress_engine_ways.proofs.Staying.{not-back}
 use Rattle.regress_engine_walks.specs.Walked.{in_loops, lower_among, sizes_from}
+use Rattle.regress_engine_walks.proofs.NotBack.{not-back}
 
 -- ---- how many of some addresses are ranked below a rank
 
@@ -173,7 +173,7 @@ module _ (program : Program) where
             by_kind : (loop_size program y (at-one y) ≡ 0) ⊎ (is_visited_once program y ≡ true) → loop_size program y (at-one y) ≡ 0
             by_kind (inl none) = none
             by_kind (inr once) =
-                let past = not-back program told input dir hs at o y less (not-led-back y once) i here x e in absurd (omega (arith, past, low))
+                let past = not-back program y (not-led-back y once) told input dir hs at o less x i here e in absurd (omega (arith, past, low))
 
         by_order : (x.at < at) ⊎ (at ≤ x.at) → sizes_from program x.at ≤ sizes_from program at
         by_order (inr further) = sizes-le at x.at further
