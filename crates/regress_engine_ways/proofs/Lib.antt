@@ -3,5 +3,6 @@ pub mod ExitAnswers
 pub mod OnWay
 pub mod Through
 pub mod Staying
+pub mod NotBack
 pub mod Ends
 pub mod ExitEnds
