@@ -52,7 +52,7 @@ module _ (h : Heights) (program : Program) (v : View) (placed : ArePlaced h (len
       by_start true = mul-le-mul_left (suc last) low
       by_start false = omega arith
 
-  outside-nearer : (at o : ℕ) (u : Whole) → IsBeyond (ranking_of h) last Forward (whole at o [] []) u → u.at < length h.ranks → sizes_from program u.at ≤ sizes_from program at
+  pub outside-nearer : (at o : ℕ) (u : Whole) → IsBeyond (ranking_of h) last Forward (whole at o [] []) u → u.at < length h.ranks → sizes_from program u.at ≤ sizes_from program at
       → left [] u.at u.offset < left [] at o
   outside-nearer at o u beyond there low = let less = nearer at o u beyond there in let few = loops-le at u.at low in omega (arith, less, few)
 
@@ -142,20 +142,20 @@ module _ (h : Heights) (program : Program) (v : View) (placed : ArePlaced h (len
       → IsBeyond (ranking_of h) last dir (whole at o [] []) u → u.at < length h.ranks → sizes_from program u.at ≤ sizes_from program at → left frames u.at u.offset < left frames at o
   loops-nearer [] have dir at o u way on outside hold hold' beyond there low =
       outside-nearer at o u (subst (λ d. IsBeyond (ranking_of h) last d (whole at o [] []) u) (outside refl) beyond) there low
-  loops-nearer (f ∷ fs) have dir at o u way on outside (in-f, hold) (in-f', hold') beyond there low = by_kind f.returns refl
+  loops-nearer (f ∷ fs) have dir at o u way on outside (in-f, hold) (in-f', hold') beyond there low =
+      by_kind f.returns refl (λ is. loops-nearer fs (sym (loops-around f fs is) ∙ have) dir at o u way on (λ plain. outside (ap (λ (b : Bool). not b && are_atomic fs) is ∙ plain)) hold hold' beyond there low)
     where
-      by_kind : (b : Bool) → f.returns ≡ b → left (f ∷ fs) u.at u.offset < left (f ∷ fs) at o
-      by_kind true is =
-          let less = inside-nearer f dir at o u way on in-f in-f' beyond in
-          let here = loops-left f fs at o have ∙ ap (λ (b : Bool). if b then left fs f.continuation f.offset + far_inside h program v f at o else left fs at o) is in
-          let on' = loops-left f fs u.at u.offset have ∙ ap (λ (b : Bool). if b then left fs f.continuation f.offset + far_inside h program v f u.at u.offset else left fs u.at u.offset) is in
-          omega (arith, less, here, on')
-      by_kind false is =
-          let here = loops-left f fs at o have ∙ ap (λ (b : Bool). if b then left fs f.continuation f.offset + far_inside h program v f at o else left fs at o) is in
-          let on' = loops-left f fs u.at u.offset have ∙ ap (λ (b : Bool). if b then left fs f.continuation f.offset + far_inside h program v f u.at u.offset else left fs u.at u.offset) is in
-          let around = λ (plain : are_atomic fs ≡ true). outside (ap (λ (b : Bool). not b && are_atomic fs) is ∙ plain) in
-          let less = loops-nearer fs (sym (loops-around f fs is) ∙ have) dir at o u way on around hold hold' beyond there low in
-          omega (arith, less, here, on')
+      was : (b : Bool) → f.returns ≡ b → left (f ∷ fs) at o ≡ (if b then left fs f.continuation f.offset + far_inside h program v f at o else left fs at o)
+      was b is = loops-left f fs at o have ∙ ap (λ (c : Bool). if c then left fs f.continuation f.offset + far_inside h program v f at o else left fs at o) is
+
+      next : (b : Bool) → f.returns ≡ b
+          → left (f ∷ fs) u.at u.offset ≡ (if b then left fs f.continuation f.offset + far_inside h program v f u.at u.offset else left fs u.at u.offset)
+      next b is = loops-left f fs u.at u.offset have ∙ ap (λ (c : Bool). if c then left fs f.continuation f.offset + far_inside h program v f u.at u.offset else left fs u.at u.offset) is
+
+      by_kind : (b : Bool) → f.returns ≡ b → (f.returns ≡ false → left fs u.at u.offset < left fs at o) → left (f ∷ fs) u.at u.offset < left (f ∷ fs) at o
+      by_kind true is around =
+          let less = inside-nearer f dir at o u way on in-f in-f' beyond in let e = was true is in let e' = next true is in omega (arith, less, e, e')
+      by_kind false is around = let less = around is in let e = was false is in let e' = next false is in omega (arith, less, e, e')
 
   -- ---- into contents
 

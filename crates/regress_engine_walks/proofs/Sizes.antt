@@ -59,7 +59,7 @@ module _ (h : Heights) where
   -- what is ranked between is among those below one and not among those below the other
   pub lower-less : (r q x from n : ℕ) → from ≤ x → x < from + n → q ≤ rank_at h x → rank_at h x < r → lower_among h q from n < lower_among h r from n
   lower-less r q x from zero after ahead low high = absurd (omega (arith, after, ahead))
-  lower-less r q x from (suc n) after ahead low high = by_order (cases_lt from x)
+  lower-less r q x from (suc n) after ahead low high = by_order (cases_lt from x) (lower-less r q x (suc from) n)
     where
       Less : Bool → Bool → Type 0
       Less b c = (if b then 1 else 0) + lower_among h q (suc from) n < (if c then 1 else 0) + lower_among h r (suc from) n
@@ -74,16 +74,17 @@ module _ (h : Heights) where
       other false true on rest = omega (arith, rest)
       other false false on rest = omega (arith, rest)
 
-      by_order : (from < x) ⊎ (x ≤ from) → Less (nat_lt (rank_at h from) q) (nat_lt (rank_at h from) r)
-      by_order (inl less) =
+      by_order : (from < x) ⊎ (x ≤ from) → (suc from ≤ x → x < suc from + n → q ≤ rank_at h x → rank_at h x < r → lower_among h q (suc from) n < lower_among h r (suc from) n)
+          → Less (nat_lt (rank_at h from) q) (nat_lt (rank_at h from) r)
+      by_order (inl less) rest =
           other (nat_lt (rank_at h from) q) (nat_lt (rank_at h from) r) (λ is. let y = ltb-true (rank_at h from) q is in lt-ltb (rank_at h from) r (omega (arith, y, low, high)))
-          (lower-less r q x (suc from) n (omega (arith, less)) (omega (arith, ahead)) low high)
-      by_order (inr more) =
+          (rest (omega (arith, less)) (omega (arith, ahead)) low high)
+      by_order (inr more) rest =
           let same : x ≡ from = omega (arith, after, more) in
           let e = ap (rank_at h) same in
-          let rest = lower-le r q (suc from) n (omega (arith, low, high)) in
+          let few = lower-le r q (suc from) n (omega (arith, low, high)) in
           subst (λ b. Less b (nat_lt (rank_at h from) r)) (sym (never (rank_at h from) (omega (arith, e, low)) (nat_lt (rank_at h from) q) refl))
-          (subst (Less false) (sym (lt-ltb (rank_at h from) r (omega (arith, e, high)))) (omega (arith, rest)))
+          (subst (Less false) (sym (lt-ltb (rank_at h from) r (omega (arith, e, high)))) (omega (arith, few)))
 
   -- an address is not below itself
   pub lower-one : (x from n : ℕ) → from ≤ x → x < from + n → lower_among h (rank_at h x) from n < n
@@ -122,9 +123,13 @@ module _ (program : Program) where
       by_order (inl within) = let one = sizes-one at within in omega (arith, one)
       by_order (inr past) = let none = sizes-past (suc at) (omega (arith, past)) in omega (arith, none)
 
+  same-le : (a b : ℕ) → a ≡ b → sizes_from program a ≤ sizes_from program b
+  same-le a b e = let same = ap (sizes_from program) e in omega (arith, same)
+
   sizes-on : (n at : ℕ) → sizes_from program (n + at) ≤ sizes_from program at
-  sizes-on zero at = omega arith
-  sizes-on (suc n) at = let rest = sizes-on n at in let next = sizes-next (n + at) in omega (arith, rest, next)
+  sizes-on zero at = same-le (0 + at) at (omega arith)
+  sizes-on (suc n) at =
+      let rest = sizes-on n at in let next = sizes-next (n + at) in let same = same-le (suc n + at) (suc (n + at)) (omega arith) in omega (arith, rest, next, same)
 
   -- further on there are no more
   pub sizes-le : (at b : ℕ) → at ≤ b → sizes_from program b ≤ sizes_from program at
@@ -132,18 +137,18 @@ module _ (program : Program) where
 
   -- nor are there further back, where none stands between
   sizes-none : (n b : ℕ) → ((y : ℕ) → b ≤ y → y < n + b → y < length is → loop_size program y (at-one y) ≡ 0) → sizes_from program b ≤ sizes_from program (n + b)
-  sizes-none zero b none = omega arith
-  sizes-none (suc n) b none = by_order (cases_lt (n + b) (length is))
+  sizes-none zero b none = same-le b (0 + b) (omega arith)
+  sizes-none (suc n) b none = by_order (cases_lt (n + b) (length is)) (sizes-none n b (λ y low less within. none y low (omega (arith, less)) within))
     where
-      rest : sizes_from program b ≤ sizes_from program (n + b)
-      rest = sizes-none n b (λ y low less within. none y low (omega (arith, less)) within)
+      next : sizes_from program (suc (n + b)) ≤ sizes_from program (suc n + b)
+      next = same-le (suc (n + b)) (suc n + b) (omega arith)
 
-      by_order : (n + b < length is) ⊎ (length is ≤ n + b) → sizes_from program b ≤ sizes_from program (suc (n + b))
-      by_order (inl within) =
+      by_order : (n + b < length is) ⊎ (length is ≤ n + b) → sizes_from program b ≤ sizes_from program (n + b) → sizes_from program b ≤ sizes_from program (suc n + b)
+      by_order (inl within) rest =
           let one = sizes-one (n + b) within in
-          let zero = none (n + b) (omega arith) (omega arith) within in
-          omega (arith, rest, one, zero)
-      by_order (inr past) = let zero = sizes-past (n + b) past in omega (arith, rest, zero)
+          let nothing = none (n + b) (omega arith) (omega arith) within in
+          omega (arith, rest, one, nothing, next)
+      by_order (inr past) rest = let nothing = sizes-past (n + b) past in omega (arith, rest, nothing, next)
 
   module _ (flow : Flow) (h : Heights) (v : View) (may : MayPass flow h program v) where
     -- what is visited at most once is told by what leads back

@@ -120,7 +120,7 @@ module _ (flow : Flow) (h : Heights) (v : View) (all : AreOfKind v.kind v.units)
 
   all-here : (start : ℕ) (frames : List Frame) (forward : Bool) (at o : ℕ) (gs : List Marks) → Goes start frames forward at o gs → InAll start frames at
   all-here start [] forward at o gs walks = tt
-  all-here start (f ∷ fs) forward at o gs walks = let (w, before, way, inside, others) = walks in all-inside start f fs forward at o gs walks at inside.after inside.ahead
+  all-here start (f ∷ fs) forward at o gs walks = let (w, before, way, inside, outside, around, alone, rest) = walks in all-inside start f fs forward at o gs walks at inside.after inside.ahead
 
   -- the run from the begin has an answer
   walk-answer : (start : ℕ) (frames : List Frame) (forward : Bool) (at o : ℕ) (gs : List Marks) → Goes start frames forward at o gs → (w : Whole) × EndsIn program (input_of v) start (Some w)
@@ -249,8 +249,8 @@ module _ (flow : Flow) (h : Heights) (v : View) (all : AreOfKind v.kind v.units)
         outside-new atomic out away = (refl, out refl)
 
         within-now : (fs : List Frame) → Goes start fs forward at o gs → IsWithin fs at
-        within-now [] goes = tt
-        within-now (f ∷ fs) (w, before, way, inside, others) = inside.after
+        within-now [] on = tt
+        within-now (f ∷ fs) (w, before, way, inside, outside, around, alone', rest) = inside.after
 
         around-new : IsWithin frames at
         around-new = within-now frames walks
@@ -309,7 +309,7 @@ module _ (flow : Flow) (h : Heights) (v : View) (all : AreOfKind v.kind v.units)
         by_frames : (fs : List Frame) → frames ≡ fs → Goes start fs forward at o gs
             → Goes start (new ∷ frames) (inside_forward kind forward) (suc at) o gs × (left start (new ∷ frames) (suc at) o < left start frames at o)
         by_frames [] none (is, (w, way, ends)) = by_base none is w (subst (λ b. IsOnWay flow h program v (direction_of b) w at o gs) (sym is) way) ends
-        by_frames (f ∷ fs) are goes = by_frame f fs are goes
+        by_frames (f ∷ fs) are on = by_frame f fs are on
 
   -- Where contents end the walk goes on behind them, and comes nearer.
   walk-out : (start : ℕ) (f : Frame) (fs : List Frame) (forward : Bool) (at o : ℕ) (gs : List Marks) → Goes start (f ∷ fs) forward at o gs → Stands program at code.goal
@@ -406,23 +406,23 @@ module _ (flow : Flow) (h : Heights) (v : View) (all : AreOfKind v.kind v.units)
         new' = frame at continuation o forward false
 
         all-next : (fs : List Frame) → Goes start fs forward at o gs → InAll start fs (suc at)
-        all-next [] goes = tt
-        all-next (f ∷ fs) goes =
-            let (w, before, way, inside, others) = goes in
+        all-next [] on = tt
+        all-next (f ∷ fs) on =
+            let (w, before, way, inside, outside, around, alone, rest) = on in
             let after = inside.after in
             let some = closed.some in
             let less = (fits-in (have_loops program (f ∷ fs)) inside.singles f.opened inside.first inside.last f.continuation inside.free at atomic low high continuation inside.after inside.ahead here).0 in
-            all-inside start f fs forward at o gs goes (suc at) (omega (arith, after)) (omega (arith, some, less))
+            all-inside start f fs forward at o gs on (suc at) (omega (arith, after)) (omega (arith, some, less))
 
         alone-new : (fs : List Frame) → Goes start fs forward at o gs → AreAlone program new' fs
-        alone-new [] goes have deep = absurd (cc deep)
+        alone-new [] on have deep b i behind ahead there = absurd (cc deep)
         alone-new (f ∷ fs) (w, before, way, inside, outside, around, alone, rest) have deep b i behind ahead there =
             let after = inside.after in
             let less = (fits-in (have_loops program (f ∷ fs)) inside.singles f.opened inside.first inside.last f.continuation inside.free at atomic low high continuation inside.after inside.ahead here).0 in
             alone have deep b i (omega (arith, after, behind)) (omega (arith, ahead, less)) there
 
         free-in : (fs : List Frame) → Goes start fs forward at o gs → have_loops program fs ≡ false → Enters start forward at o gs atomic low high continuation here fs
-        free-in [] goes none = absurd (cc none)
+        free-in [] on none = absurd (cc none)
         free-in (f ∷ fs) (w, before, way, inside, outside, around, alone, rest) none =
             let less = (fits-in (have_loops program (f ∷ fs)) inside.singles f.opened inside.first inside.last f.continuation inside.free at atomic low high continuation inside.after inside.ahead here).0 in
             let free : AreLoopFree program inside.singles f.opened inside.first inside.last f.continuation
@@ -513,7 +513,7 @@ module _ (flow : Flow) (h : Heights) (v : View) (all : AreOfKind v.kind v.units)
 
         -- inside of a lookaround
         deep-in : (fs : List Frame) → Goes start fs forward at o gs → are_atomic fs ≡ false → Enters start forward at o gs (lookaround false backward) low high continuation here fs
-        deep-in [] goes deep = absurd (cc deep)
+        deep-in [] on deep = absurd (cc deep)
         deep-in (f ∷ fs) (w, before, way, inside, outside, around, alone, rest) deep = by_loops (have_loops program (f ∷ fs)) refl
           where
             none-new : have_loops program (new' ∷ f ∷ fs) ≡ false
@@ -574,7 +574,7 @@ module _ (flow : Flow) (h : Heights) (v : View) (all : AreOfKind v.kind v.units)
           × (left start (entered i now).frames (entered i now).at (entered i now).offset < left start frames at o)
       into (code.submatch (lookaround false backward) low high continuation) there is =
           let lower = (ranked-there (lookaround false backward) low high continuation there).0 in
-          let rank = elim lower.rank [ inl some ↦ absurd (omega (arith, some)) | inr less ↦ less ] in
+          let rank : rank_at h continuation < rank_at h at = elim lower.rank [ inl some ↦ absurd (omega (arith, some)) | inr less ↦ less ] in
           walk-into start forward at o gs (lookaround false backward) low high continuation there frames walks
           (enters-look start forward at o gs place frames walks backward low high continuation there (ltb-true low high is) rank) lower.same (λ e. absurd (cc e)) (λ w way.
           let (t, inner, outer, anywhere) = look-into flow h v all program suits may.pass dir (told_by a) Anywhere (right dir) (past dir) w at o gs way tt gs backward low high continuation there in

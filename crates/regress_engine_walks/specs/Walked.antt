@@ -1,5 +1,5 @@
 -- Where a walk along what is told stands, inside and behind the contents of lookarounds and atomic groups.
-use Rattle.std.specs.Prelude.{◌≡◌, ℕ, suc, ◌+◌, ◌-◌, ◌*◌, ◌<◌, ◌≤◌, ◌&&◌, ◌==◌, Bool, true, false, nat_lt, not, List, [], ◌∷◌, drop, length, reverse, Option, Some, None, if◌then◌else◌}
+use Rattle.std.specs.Prelude.{◌≡◌, ℕ, zero, suc, ◌+◌, ◌-◌, ◌*◌, ◌<◌, ◌≤◌, ◌&&◌, ◌==◌, Bool, true, false, nat_lt, not, List, [], ◌∷◌, drop, length, reverse, Option, Some, None, if◌then◌else◌}
 use Rattle.regress_meaning.specs.Meaning.{Direction, Forward}
 use Rattle.regress_front_nodes.specs.Trees.{Submatch, lookaround, atomic}
 use Rattle.regress_engine_input.specs.Views.{View, direction_of, input_of, reading_of}
@@ -141,7 +141,7 @@ sizes_from program at = loop_sizes program at (drop at program.instructions)
 
 -- how many of so many addresses from one on are ranked below a rank
 abbrev pub lower_among : Heights → (rank from : ℕ) → (count : ℕ) → ℕ
-lower_among h rank from 0 = 0
+lower_among h rank from zero = 0
 lower_among h rank from (suc n) = (if nat_lt (rank_at h from) rank then 1 else 0) + lower_among h rank (suc from) n
 
 module _ (h : Heights) (program : Program) (v : View) where

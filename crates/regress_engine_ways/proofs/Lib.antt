@@ -3,6 +3,5 @@ pub mod ExitAnswers
 pub mod OnWay
 pub mod Through
 pub mod Staying
-pub mod NotBack
 pub mod Ends
 pub mod ExitEnds
