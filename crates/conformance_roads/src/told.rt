@@ -13,10 +13,10 @@ use crate::calls::push_match;
 use crate::report::Report;
 use regress::backends::{AsciiInput, Utf8Input};
 use regress::{CompiledRegex, Match, Regex, is_ascii_text};
-use regress_engine_walks::TextTable;
 use regress_engine_inputs::{Ucs2Input, Utf16Input};
 use regress_engine_linear::LinearTable;
 use regress_engine_search::{ExecutorInput, SearchContext};
+use regress_engine_walks::TextTable;
 use std::alloc::{AllocError, Global};
 
 /// A table tells of fewer addresses and offsets.

@@ -13,10 +13,10 @@ ghost use Rattle.regress_engine_exec.specs.Searches.{groups_of};
 
 use crate::scratch::Scratch;
 use regress_engine_advance::beside;
-use regress_engine_walks::next_place;
 use regress_engine_attempt::{Attempt, Remembered};
 use regress_engine_leading::{Beginning, known_at};
 use regress_engine_search::{Budget, Ended, ExecutorInput, SearchContext};
+use regress_engine_walks::next_place;
 use std::alloc::AllocError;
 
 /// The place from which a search goes on from an offset. Once failures are kept runs may end at once, so that nothing is passed any

@@ -8,10 +8,10 @@ ghost use Rattle.regress_engine_search.specs.StateViews.{marks_of};
 ghost use Rattle.regress_engine_exec.specs.Turned.{GoesOnBy};
 
 use crate::turning::{LINEAR_STEPS, MOST_TOLD, fits_told};
-use regress_engine_walks::TextTable;
 use regress_engine_insn::Insn;
 use regress_engine_linear::{LinearTable, MOST_ADDRESSES};
 use regress_engine_search::{ExecutorInput, SearchContext, StepsLeft};
+use regress_engine_walks::TextTable;
 use regress_front_core::GroupData;
 use std::alloc::{AllocError, Global};
 

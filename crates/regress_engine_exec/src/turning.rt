@@ -9,9 +9,9 @@ ghost use Rattle.regress_engine_walks.specs.Searched.{from_start};
 ghost use Rattle.regress_engine_exec.specs.Turned.{CountsTold, Turns, enough_by, fits_told, linear_steps, may_turn, told_steps};
 
 use crate::budget::SearchBudget;
-use regress_engine_walks::TextTable;
 use regress_engine_linear::LinearTable;
 use regress_engine_search::{ExecutorInput, SearchContext};
+use regress_engine_walks::TextTable;
 use regress_front_core::GroupData;
 use std::alloc::{AllocError, Global};
 

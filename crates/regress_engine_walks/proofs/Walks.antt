@@ -107,7 +107,7 @@ module _ (flow : Flow) (h : Heights) (v : View) (all : AreOfKind v.kind v.units)
       let ahead = inside.ahead in (
         (within, omega (arith, less, ahead)),
         all-around start fs f.forward f.continuation (offset_behind f w.offset) (mixed 0 inside.first inside.last w.groups before) rest b
-        (further-in fs f.opened b around within) (omega (arith, less, ahead)),
+            (further-in fs f.opened b around within) (omega (arith, less, ahead)),
       )
 
   -- and so does what lies in the innermost
@@ -355,11 +355,11 @@ module _ (flow : Flow) (h : Heights) (v : View) (all : AreOfKind v.kind v.units)
           let ranks = ap (rank_at h) out in
           let read = read-there f.forward w' f.continuation (offset_behind f o) gs way' ∙ ap direction_of (sym same-way) in
           let less = loops-nearer h program v may.pass.placed start fs (sym (loops-around h program v may.pass.placed start f fs turns) ∙ have) (direction_of forward) at o (whole f.continuation o [] [])
-              (read-there forward w at o gs way) read
-              (λ plain. ap direction_of (walk-forward start (f ∷ fs) forward at o gs (w, before, way, inside, outside, around, alone, rest) (ap (λ (b : Bool). not b && are_atomic fs) turns ∙ plain)))
-              (all-around start fs f.forward f.continuation (offset_behind f o) gs on at (further-in fs f.opened at around inside.after) inside.ahead)
-              (all-here start fs f.forward f.continuation (offset_behind f o) gs on) (inr (refl, omega (arith, lower, ranks))) way'.there
-              (let ahead = inside.ahead in sizes-le program at f.continuation (omega (arith, ahead))) in
+          (read-there forward w at o gs way) read
+          (λ plain. ap direction_of (walk-forward start (f ∷ fs) forward at o gs (w, before, way, inside, outside, around, alone, rest) (ap (λ (b : Bool). not b && are_atomic fs) turns ∙ plain)))
+          (all-around start fs f.forward f.continuation (offset_behind f o) gs on at (further-in fs f.opened at around inside.after) inside.ahead)
+          (all-here start fs f.forward f.continuation (offset_behind f o) gs on) (inr (refl, omega (arith, lower, ranks))) way'.there
+          (let ahead = inside.ahead in sizes-le program at f.continuation (omega (arith, ahead))) in
           omega (arith, e, q, less)
       by_kind false true none turns on =
           let e = free-left h program v may.pass.placed start f fs at o none in
@@ -426,7 +426,7 @@ module _ (flow : Flow) (h : Heights) (v : View) (all : AreOfKind v.kind v.units)
         free-in (f ∷ fs) (w, before, way, inside, outside, around, alone, rest) none =
             let less = (fits-in (have_loops program (f ∷ fs)) inside.singles f.opened inside.first inside.last f.continuation inside.free at atomic low high continuation inside.after inside.ahead here).0 in
             let free : AreLoopFree program inside.singles f.opened inside.first inside.last f.continuation
-                = subst (λ b. AreContents b inside.singles program f.opened inside.first inside.last f.continuation) none inside.free in
+            = subst (λ b. AreContents b inside.singles program f.opened inside.first inside.last f.continuation) none inside.free in
             record {
               singles = inside.singles;
               free = subst (λ b. AreContents b inside.singles program at low high continuation) (sym none)
@@ -441,8 +441,8 @@ module _ (flow : Flow) (h : Heights) (v : View) (all : AreOfKind v.kind v.units)
             let read = read-there forward w at o gs way in
             let same = loops-left h program v may.pass.placed start new' frames (suc at) o have in
             let less = loops-nearer h program v may.pass.placed start frames have (direction_of forward) at o (whole (suc at) o [] []) read (inner.way ∙ read)
-                (λ plain. ap direction_of (walk-forward start frames forward at o gs walks plain)) (all-here start frames forward at o gs walks) (all-next frames walks)
-                (inr (refl, atomic-lower (ranking_of h) at continuation inner)) inner.within (sizes-le program at (suc at) (omega arith)) in
+            (λ plain. ap direction_of (walk-forward start frames forward at o gs walks plain)) (all-here start frames forward at o gs walks) (all-next frames walks)
+            (inr (refl, atomic-lower (ranking_of h) at continuation inner)) inner.within (sizes-le program at (suc at) (omega arith)) in
             record {
               singles = false;
               free = subst (λ b. AreContents b false program at low high continuation) (sym have) closed;
@@ -479,7 +479,7 @@ module _ (flow : Flow) (h : Heights) (v : View) (all : AreOfKind v.kind v.units)
             let starts = (and_parts (is_text_start (slice_get program.instructions 0)) (nat_lt at (lead_back (suc at) (drop (suc at) program.instructions))) m.once).0 in
             let begins = begins-at-start v all program starts start place answer ends in
             let size : loop_size program at (code.submatch (lookaround false backward) low high continuation) ≡ continuation - at
-                = ap (λ (x : Bool). if x && repeats_inside program at continuation then continuation - at else 0) (lt-ltb low high some) ∙ ap (λ (x : Bool). if x then continuation - at else 0) has in
+            = ap (λ (x : Bool). if x && repeats_inside program at continuation then continuation - at else 0) (lt-ltb low high some) ∙ ap (λ (x : Bool). if x then continuation - at else 0) has in
             let one = sizes-here program at (code.submatch (lookaround false backward) low high continuation) here in
             let inner-some = m.stay.some in
             let fewer = sizes-le program (suc at) continuation (omega (arith, inner-some)) in
@@ -535,7 +535,7 @@ module _ (flow : Flow) (h : Heights) (v : View) (all : AreOfKind v.kind v.units)
                 → Enters start forward at o gs (lookaround false backward) low high continuation here (f ∷ fs)
             by_inner true has none =
                 let free : AreLoopFree program inside.singles f.opened inside.first inside.last f.continuation
-                    = subst (λ b. AreContents b inside.singles program f.opened inside.first inside.last f.continuation) none inside.free in
+                = subst (λ b. AreContents b inside.singles program f.opened inside.first inside.last f.continuation) none inside.free in
                 enters inside.singles (free-inside inside.singles f.opened inside.first inside.last f.continuation free at low high continuation inside.after less (leaves-as true has).stay) none
             by_inner false has none = enters (is_visited_once program at) (leaves-as false has).0 none
 

@@ -261,7 +261,16 @@ fn exit<Input: ExecutorInput>(
         return None;
     };
     if greedy {
-        far_exit(answering, answers, body, most - least, forward, from, at, near)
+        far_exit(
+            answering,
+            answers,
+            body,
+            most - least,
+            forward,
+            from,
+            at,
+            near,
+        )
     } else {
         near_exit(answering, answers, body, most - least, forward, at, near)
     }
@@ -294,7 +303,8 @@ fn led<Input: ExecutorInput>(
             greedy,
         } => {
             let body = answering.instruction(at + 1);
-            let exit = exit(answering, 
+            let exit = exit(
+                answering,
                 answers,
                 body,
                 *min_iters,
@@ -344,7 +354,14 @@ pub(crate) fn follow<Input: ExecutorInput>(
         let insn = answering.instruction(here.at);
         *steps = steps.saturating_add(1);
         mark(insn, walker.forward, here.offset, groups);
-        let next = led(answering, answers, insn, walker.forward, here.at, here.offset);
+        let next = led(
+            answering,
+            answers,
+            insn,
+            walker.forward,
+            here.at,
+            here.offset,
+        );
         if !walker.goes(insn, next)? {
             return Ok(here.offset);
         }

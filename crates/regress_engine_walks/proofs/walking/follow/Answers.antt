@@ -109,7 +109,7 @@ returns-then-not-branch-clause-counted g c =
     let low = rank-low (heights_in c.args.table.now) may.pass.placed 0 may.there in
     let counted = c.way.invariant.counted in
     let one = c.saturating_add.ensures in
-    let loops = loops-begin _ (program_of c.args.answering.now.program.now) (g.Input.InputIndexer.view c.args.answering.now.input) may.once c.args.start in
+    let loops = loops-begin (heights_in c.args.table.now) (program_of c.args.answering.now.program.now) (g.Input.InputIndexer.view c.args.answering.now.input) may.once c.args.start in
     omega (arith, low, least, counted, one, loops)
 
 pub way-smaller : goal.way-smaller
