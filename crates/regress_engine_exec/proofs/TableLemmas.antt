@@ -1,7 +1,7 @@
 -- How many steps an iteration takes to walk along its matches.
 use Rattle.std.specs.Prelude.{IfOk, IfSome, OnOk, Result, Ok, Err, length, option_map}
 use Rattle.std.specs.Result.{result_transpose}
-use Rattle.std.proofs.Common.{◌≡◌, ◌==◌, ℕ, zero, suc, ◌+◌, ◌-◌, ◌*◌, ◌<◌, ◌≤◌, ◌⊎◌, inl, inr, Bool, true, false, if◌then◌else◌, Option, Some, None, refl, sym, ap, ◌∙◌, subst, arith}
+use Rattle.std.proofs.Common.{◌≡◌, ◌==◌, ℕ, suc, ◌+◌, ◌-◌, ◌*◌, ◌<◌, ◌≤◌, ◌⊎◌, inl, inr, Bool, true, false, if◌then◌else◌, Option, Some, None, refl, sym, ap, ◌∙◌, subst, arith}
 use Rattle.std.proofs.Math.Nat.{mul-le-mul_left}
 use Rattle.std.proofs.lemmas.Bool.{cases_lt, ne_eqb}
 use Rattle.regress_meaning.specs.Meaning.{Forward}
@@ -32,20 +32,25 @@ scaled w x y n low = let more = mul-le-mul_left n low in omega (arith, more)
 alone : (w y n : ℕ) → w ≤ 2 * y → w * n ≤ 2 * (y * n)
 alone w y n low = let more = mul-le-mul_left n low in omega (arith, more)
 
+none-behind : (table : LinearTable) (units q : ℕ) → 0 < q → start_steps table units q ≡ 0
+none-behind table units q past =
+    ap (λ (b : Bool). if b then suc units * length (heights_in table).order else 0) (ne_eqb q 0 (λ same. absurd (omega (arith, same, past))))
+
 -- Steps that are taken from the begin of the text are left before, and not behind.
 at-start : (table : LinearTable) (units at start : ℕ) → at ≤ start → start_steps table units start ≤ start_steps table units at
-at-start table units zero zero low = omega arith
-at-start table units zero (suc start) low = omega arith
-at-start table units (suc at) zero low = absurd (omega (arith, low))
-at-start table units (suc at) (suc start) low = omega arith
-
-none-behind : (table : LinearTable) (units q : ℕ) → 0 < q → start_steps table units q ≡ 0
-none-behind table units zero past = absurd (omega (arith, past))
-none-behind table units (suc q) past = refl
+at-start table units at start low = by_order (cases_lt 0 start)
+  where
+    by_order : (0 < start) ⊎ (start ≤ 0) → start_steps table units start ≤ start_steps table units at
+    by_order (inl more) = let none = none-behind table units start more in omega (arith, none)
+    by_order (inr few) =
+        let same : start ≡ at = omega (arith, few, low) in let e = ap (start_steps table units) same in omega (arith, e)
 
 few-at-start : (table : LinearTable) (units at : ℕ) → start_steps table units at ≤ suc units * length (heights_in table).order
-few-at-start table units zero = omega arith
-few-at-start table units (suc at) = omega arith
+few-at-start table units at = by_test (at == 0)
+  where
+    by_test : (b : Bool) → (if b then suc units * length (heights_in table).order else 0) ≤ suc units * length (heights_in table).order
+    by_test true = omega arith
+    by_test false = omega arith
 
 -- what was counted on a way is no more than a walk along it takes
 walked : (before after n x y z more : ℕ) → after + x * n ≤ before + y * n + n + more → y ≤ x + z → after ≤ before + (suc z * n + more)
