@@ -7,8 +7,8 @@ use Rattle.regress_engine_search.specs.Answering.{IsFound}
 use Rattle.regress_engine_undo.specs.Held.{held}
 use Rattle.regress_engine_search.specs.Search.{IsSearchable}
 use Rattle.regress_engine_search.proofs.SearchLemmas.{found-inside, found-item}
-use Rattle.regress_engine_exec.specs.Searches.{table_in, tabled_in}
-use Rattle.regress_engine_exec.specs.Turned.{ends, most_walked}
+use Rattle.regress_engine_exec.specs.Searches.{tabled_in, walked_in}
+use Rattle.regress_engine_exec.specs.Turned.{ends}
 use Rattle.regress_engine_exec.proofs.search.Backtracker.find_from.Goals as goal
 
 pub returns-clause-found : goal.returns-clause-found
@@ -28,10 +28,10 @@ returns-clause-inside g c =
 pub returns-in_default-clause-tabled : goal.returns-in_default-clause-tabled
 returns-in_default-clause-tabled g c =
     let self = c.args.self.now in
-    subst (λ x. tabled_in c.search.new.self ≤ tabled_in self + most_walked (table_in self) (length (search_in self).view.units) x) c.in_default.is c.in_ok-start.ensures.tabled
+    subst (λ x. tabled_in c.search.new.self ≤ tabled_in self + walked_in self x) c.in_default.is c.in_ok-start.ensures.tabled
 
 pub returns-clause-tabled : goal.returns-clause-tabled
 returns-clause-tabled g c =
     let self = c.args.self.now in
     let is : ends (item_of c.in_ok-found.found) ≡ (c.in-Some.start, c.in-Some.end) = ap ends (c.in_ok-found.ensures.item ∙ ap (item_with c.in-Some.start c.in-Some.end) c.deref.ensures.value) in
-    subst (λ x. tabled_in c.search.new.self ≤ tabled_in self + most_walked (table_in self) (length (search_in self).view.units) x) (c.in-Some.is ∙ ap Some (sym is)) c.in_ok-start.ensures.tabled
+    subst (λ x. tabled_in c.search.new.self ≤ tabled_in self + walked_in self x) (c.in-Some.is ∙ ap Some (sym is)) c.in_ok-start.ensures.tabled
