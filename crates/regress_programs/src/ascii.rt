@@ -19,11 +19,21 @@ use std::iter::FusedIterator;
 
 /// The matches of a compiled pattern in a text of ASCII, each after the one before: from `Regex::find_iter_ascii` and
 /// `Regex::find_from_ascii`.
-#[derive(Debug, Drop)]
+#[derive(Debug)]
 pub struct AsciiMatches<'r, 't> {
     executor: BacktrackExecutor<'r, AsciiInput<'r, 't>>,
     position: Option<usize>,
     ghost placed: { IsPlaced (ascii_view executor.context.input) position } by { IsPlaced-prop (ascii_view executor.context.input) position },
+}
+
+// By hand, so that a caller's proof passes over one call where an iterator goes out of scope, and not over each field of its executor.
+impl<'r, 't> Drop for AsciiMatches<'r, 't> {
+    fn drop(self) {
+        let AsciiMatches {
+            executor: _,
+            position: _,
+        } = self;
+    }
 }
 
 impl<'r, 't> AsciiMatches<'r, 't> {

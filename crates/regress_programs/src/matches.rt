@@ -19,11 +19,21 @@ use std::iter::FusedIterator;
 
 /// The matches of a compiled pattern in a text, each after the one before: from `Regex::find_iter` and
 /// `Regex::find_from`.
-#[derive(Debug, Drop)]
+#[derive(Debug)]
 pub struct Matches<'r, 't> {
     executor: BacktrackExecutor<'r, Utf8Input<'r, 't>>,
     position: Option<usize>,
     ghost placed: { IsPlaced (utf8_view executor.context.input) position } by { IsPlaced-prop (utf8_view executor.context.input) position },
+}
+
+// By hand, so that a caller's proof passes over one call where an iterator goes out of scope, and not over each field of its executor.
+impl<'r, 't> Drop for Matches<'r, 't> {
+    fn drop(self) {
+        let Matches {
+            executor: _,
+            position: _,
+        } = self;
+    }
 }
 
 impl<'r, 't> Matches<'r, 't> {

@@ -16,20 +16,40 @@ use std::alloc::Global;
 use std::iter::FusedIterator;
 
 /// The matches of a compiled pattern in units of UTF-16, each after the one before: from `Regex::find_from_utf16`.
-#[derive(Debug, Drop)]
+#[derive(Debug)]
 pub struct Utf16Matches<'r, 't> {
     executor: BacktrackExecutor<'r, Utf16Input<'r, 't>>,
     position: Option<usize>,
     ghost placed: { IsPlaced (utf16_view executor.context.input) position } by { IsPlaced-prop (utf16_view executor.context.input) position },
 }
 
+// By hand, so that a caller's proof passes over one call where an iterator goes out of scope, and not over each field of its executor.
+impl<'r, 't> Drop for Utf16Matches<'r, 't> {
+    fn drop(self) {
+        let Utf16Matches {
+            executor: _,
+            position: _,
+        } = self;
+    }
+}
+
 /// The matches of a compiled pattern in 16-bit units that are each one character, each after the one before: from
 /// `Regex::find_from_ucs2`.
-#[derive(Debug, Drop)]
+#[derive(Debug)]
 pub struct Ucs2Matches<'r, 't> {
     executor: BacktrackExecutor<'r, Ucs2Input<'r, 't>>,
     position: Option<usize>,
     ghost placed: { IsPlaced (ucs2_view executor.context.input) position } by { IsPlaced-prop (ucs2_view executor.context.input) position },
+}
+
+// By hand, so that a caller's proof passes over one call where an iterator goes out of scope, and not over each field of its executor.
+impl<'r, 't> Drop for Ucs2Matches<'r, 't> {
+    fn drop(self) {
+        let Ucs2Matches {
+            executor: _,
+            position: _,
+        } = self;
+    }
 }
 
 impl<'r, 't> Utf16Matches<'r, 't> {
