@@ -17,7 +17,8 @@ use Rattle.regress_engine_linear.specs.Answered.{one_at}
 use Rattle.regress_engine_answers.specs.AnswerTables.{told_by}
 use Rattle.regress_engine_answers.specs.Filled.{AreRight, IsExitRight}
 use Rattle.regress_engine_linear.specs.Linear.{IsLinear, too_long}
-use Rattle.regress_engine_walks.specs.Walked.{AreExitsKnown, AreExitsTold, MayWalk}
+use Rattle.regress_engine_answers.specs.Filled.{AreExitsKnown}
+use Rattle.regress_engine_walks.specs.Walked.{AreExitsTold, MayWalk}
 use Rattle.regress_engine_answers.specs.declared.answers.Answers.{Answers}
 use Rattle.regress_engine_ways.proofs.ExitWays.{ones-free}
 use Rattle.regress_engine_ways.proofs.OnWay.{may-pass}
