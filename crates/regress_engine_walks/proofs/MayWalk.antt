@@ -15,9 +15,8 @@ use Rattle.regress_engine_memory.proofs.Unreferring.{advance-any}
 use Rattle.regress_engine_linear.specs.RankTables.{Heights, forward_at}
 use Rattle.regress_engine_linear.specs.Answered.{one_at}
 use Rattle.regress_engine_answers.specs.AnswerTables.{told_by}
-use Rattle.regress_engine_answers.specs.Filled.{AreRight, IsExitRight}
+use Rattle.regress_engine_answers.specs.Filled.{AreExitsKnown, AreRight, IsExitRight}
 use Rattle.regress_engine_linear.specs.Linear.{IsLinear, too_long}
-use Rattle.regress_engine_answers.specs.Filled.{AreExitsKnown}
 use Rattle.regress_engine_walks.specs.Walked.{AreExitsTold, MayWalk}
 use Rattle.regress_engine_answers.specs.declared.answers.Answers.{Answers}
 use Rattle.regress_engine_ways.proofs.ExitWays.{ones-free}
