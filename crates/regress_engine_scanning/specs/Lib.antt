@@ -4,3 +4,4 @@ pub mod NibbleSets
 pub mod BytePairs
 pub mod WordStarts
 pub mod Landmarks
+pub mod Runs

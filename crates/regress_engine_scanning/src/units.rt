@@ -8,8 +8,7 @@ ghost use Rattle.regress_front_bytes.specs.Bitmaps.{byte_bitmap_contains};
 ghost use Rattle.regress_engine_scanning.specs.Least.{IsLeast};
 ghost use Rattle.regress_engine_scanning.specs.Units.{AreAscii, IsNextUnit, has_ends};
 
-use crate::unit::Unit;
-use regress_front_bytes::ByteBitmap;
+use memchr::arch::all::packedpair::Pair;
 use std::simd::prelude::*;
 
 /// How many units are tested at once.
@@ -139,25 +138,6 @@ pub fn find_member<Set: UnitSet>(set: &Set, units: &[u16], from: usize) -> Optio
     first_from(set, units, at)
 }
 
-/// Where a byte of a set first stands from an index on. Asks that all bytes of the set are below 0x80, and that the index lies
-/// among the units.
-///
-/// ```rust
-/// let index = find_byte_of(&ByteBitmap::new(b"bc"), &[0x61, 0x62], 0); // `Some(1)`
-/// ```
-pub fn find_byte_of(set: &ByteBitmap, units: &[u16], from: usize) -> Option<usize>
-    requires ascii { AreAscii (byte_bitmap_contains set.now) }
-    requires inside { from ≤ length units.now }
-    ensures { IsNextUnit (byte_bitmap_contains set.now) units.now from result }
-{
-    for index in from..units.len() {
-        if set.contains(units[index].narrowed()) {
-            return Some(index);
-        }
-    }
-    None
-}
-
 /// Whether these bytes stand at an index.
 fn stand_at(bytes: &[u8], units: &[u16], index: usize) -> bool
     requires { index ≤ length units.now }
@@ -246,6 +226,30 @@ fn find_ends(first: u8, last: u8, apart: usize, units: &[u16], from: usize) -> O
     first_ends(first, last, apart, units, at)
 }
 
+/// Where two of some bytes are that are rare in texts, the first one first; `None` of fewer than two bytes.
+#[inline(always)]
+fn rare_of(bytes: &[u8]) -> Option<(usize, usize)>
+    ensures { IfSome result (λ rare. (rare.0 < rare.1) × (rare.1 < length bytes.now)) }
+{
+    let pair = Pair::new(bytes)?;
+    let first = usize::from(pair.index1());
+    let second = usize::from(pair.index2());
+    Some((first.min(second), first.max(second)))
+}
+
+/// Where one byte, if there is any, first stands from an index on.
+#[inline(always)]
+fn find_short(bytes: &[u8], units: &[u16], from: usize) -> Option<usize>
+    requires few { length bytes.now ≤ 1 }
+    requires inside { from ≤ length units.now }
+    ensures { IsLeast (λ k. take (length bytes.now) (drop k units.now) ≡ bytes.now) from result }
+{
+    match bytes.first() {
+        Some(byte) => find_member(&[*byte], units, from),
+        None => Some(from),
+    }
+}
+
 /// Where these bytes first stand from an index on. Asks that the index lies among the units.
 ///
 /// ```rust
@@ -255,15 +259,16 @@ pub fn find_sequence(bytes: &[u8], units: &[u16], from: usize) -> Option<usize>
     requires { from ≤ length units.now }
     ensures { IsLeast (λ k. take (length bytes.now) (drop k units.now) ≡ bytes.now) from result }
 {
-    let (Some(first), Some(last)) = (bytes.first(), bytes.last()) else {
-        return Some(from);
+    let Some((near, far)) = rare_of(bytes) else {
+        return find_short(bytes, units, from);
     };
     let mut at = from;
-    while let Some(index) = find_ends(*first, *last, bytes.len() - 1, units, at) {
-        if stand_at(bytes, units, index) {
-            return Some(index);
+    while units.len() - at >= bytes.len() {
+        let index = find_ends(bytes[near], bytes[far], far - near, units, at + near)?;
+        if stand_at(bytes, units, index - near) {
+            return Some(index - near);
         }
-        at = index + 1;
+        at = index - near + 1;
     }
     None
 }

@@ -27,6 +27,25 @@ impl AsciiBitmap {
     {
         self.0[usize::from(val / 8)] |= 1 << (val % 8);
     }
+
+    /// Its members by rows of eight: bit `b % 8` of the row `b / 8` is that of the byte `b`, which is under 0x80.
+    #[inline(always)]
+    pub fn rows(&self) -> &[u8; 16]
+        ensures { (b : ℕ) → b < 0x80 → ascii_bitmap_contains self.now b ≡ nat_eq (bit_at (slice_index result.now (b / 8)) (b % 8)) 1 }
+    {
+        &self.0
+    }
+
+    /// The bytes under 0x80 that are no members.
+    pub fn inverted(&self) -> AsciiBitmap
+        ensures { (b : ℕ) → b < 0x80 → ascii_bitmap_contains result b ≡ not (ascii_bitmap_contains self.now b) }
+    {
+        let mut inverted = *self;
+        for row in inverted.0.iter_mut() {
+            *row = !*row;
+        }
+        inverted
+    }
 }
 
 impl ByteSet for AsciiBitmap {
@@ -73,6 +92,14 @@ impl ByteBitmap {
         ensures { result ≡ byte_bitmap_contains self.now val }
     {
         self.0[usize::from(val / 16)] >> (val % 16) & 1 == 1
+    }
+
+    /// Its members by rows of sixteen: bit `b % 16` of the row `b / 16` is that of the byte `b`.
+    #[inline(always)]
+    pub fn rows(&self) -> &[u16; 16]
+        ensures { (b : ℕ) → b < 256 → byte_bitmap_contains self.now b ≡ nat_eq (bit_at (slice_index result.now (b / 16)) (b % 16)) 1 }
+    {
+        &self.0
     }
 
     /// Adds the byte `val`. After `set.set(0xFF)` the set holds `0xFF`.
