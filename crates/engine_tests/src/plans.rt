@@ -39,6 +39,7 @@ fn known_in(program: &CompiledRegex) -> (usize, usize) {
         match program.known(at) {
             Known::Possessive => found.0 = found.0.saturating_add(1),
             Known::Turn(_) => found.1 = found.1.saturating_add(1),
+            Known::Ways(_) => (),
             Known::Nothing => (),
         }
     }

@@ -8,6 +8,7 @@ use crate::first_bytes::first_bytes_by_address;
 use crate::shared::SharedFacts;
 use crate::shortcuts::add_known;
 use crate::submatches::has_submatches;
+use crate::ways::{Ways, add_ways};
 use regress_engine_insn::Insn;
 use regress_front_nodes::BracketContents;
 use std::alloc::{AllocError, Global};
@@ -17,6 +18,8 @@ use std::alloc::{AllocError, Global};
 pub struct Plan {
     /// Of each address.
     facts: SharedFacts,
+    /// Where it goes on from several ways, for the addresses that have such a table.
+    ways: Vec<Ways>,
     /// Whether there are lookarounds or atomic groups.
     submatches: bool,
 }
@@ -45,8 +48,10 @@ impl Plan {
         for at in 0..insns.len() {
             add_known(insns, &mut facts, at)?;
         }
+        let ways = add_ways(alloc, insns, &mut facts)?;
         Ok(Plan {
             facts,
+            ways,
             submatches: has_submatches(insns),
         })
     }
@@ -79,6 +84,25 @@ impl Plan {
         }
     }
 
+    /// Where it goes on from several ways where a byte stands ahead, read forward, as long as of two ways one surely leads nowhere;
+    /// `None` where that is not told.
+    ///
+    /// ```rust
+    /// let way = plan.way_from(0, b'x');
+    /// ```
+    #[inline(always)]
+    pub fn way_from(&self, at: usize, byte: u8) -> Option<usize>
+        ensures { IfSome result (λ way. LeadsTo (program_of_plan self.now) (facts_of self.now) byte at way) }
+    {
+        let Known::Ways(number) = self.known(at) else {
+            return None;
+        };
+        if byte >= 0x80 || number as usize >= self.ways.len() {
+            return None;
+        }
+        Some(self.ways[number as usize].0[usize::from(byte)] as usize)
+    }
+
     /// Whether the program has lookarounds or atomic groups.
     ///
     /// ```rust
@@ -101,6 +125,7 @@ impl Plan {
     {
         Ok(Plan {
             facts: self.facts.try_clone(alloc)?,
+            ways: self.ways.to_vec(alloc)?,
             submatches: self.submatches,
         })
     }

@@ -12,8 +12,9 @@ use regress_engine_insn::Insn;
 use regress_engine_search::ExecutorInput;
 
 impl<'a, Input: ExecutorInput> Attempt<'a, Input> {
-    /// Where it continues, read forward, before this byte: as long as one of two ways surely leads nowhere, by the other.
-    #[inline(always)]
+    /// Where it continues, read forward, before this byte: as long as one of two ways surely leads nowhere, by the other. It is apart so
+    /// that no step makes room for it.
+    #[inline(never)]
     fn way_ahead(&self, start: usize, byte: u8) -> usize
         requires { Suits (program_of self.now.program.now) (Input.view self.now.input) }
         ensures { (o : ℕ) → StandsAhead (world Input.view self.now) byte o → IsWayIn (world Input.view self.now) true o start result }
@@ -40,6 +41,23 @@ impl<'a, Input: ExecutorInput> Attempt<'a, Input> {
         at
     }
 
+    /// The address at which it continues from two ways, read backward, by what stands before an offset.
+    #[inline(never)]
+    fn way_behind(&self, at: usize, second: usize, offset: usize) -> usize
+        requires suits { Suits (program_of self.now.program.now) (Input.view self.now.input) }
+        requires stands { Stands (program_of self.now.program.now) at (alt second) }
+        requires room { at + 1 < 2 ^ 64 }
+        ensures { IsWayIn (world Input.view self.now) false offset at result }
+    {
+        if is_dead_behind(self.program, &self.input, at + 1, offset) {
+            return second;
+        }
+        if is_dead_behind(self.program, &self.input, second, offset) {
+            return at + 1;
+        }
+        at
+    }
+
     /// The address at which it continues from two ways, by what stands beside an offset: that of both where neither surely leads nowhere.
     #[inline(always)]
     pub(crate) fn way_of_two(&self, at: usize, second: usize, forward: bool, offset: usize) -> usize
@@ -50,16 +68,13 @@ impl<'a, Input: ExecutorInput> Attempt<'a, Input> {
     {
         if forward {
             return match lead_ahead(&self.input, offset) {
-                Some(byte) => self.way_ahead(at, byte),
+                Some(byte) => match self.program.way_from(at, byte) {
+                    Some(way) => way,
+                    None => self.way_ahead(at, byte),
+                },
                 None => at,
             };
         }
-        if is_dead_behind(self.program, &self.input, at + 1, offset) {
-            return second;
-        }
-        if is_dead_behind(self.program, &self.input, second, offset) {
-            return at + 1;
-        }
-        at
+        self.way_behind(at, second, offset)
     }
 }

@@ -29,6 +29,32 @@ fn ascii_bitmap(contents: &BracketContents) -> Option<AsciiBitmap>
     Some(contents.cps.ascii_members())
 }
 
+/// The characters of ASCII that a bracket matches.
+fn ascii_matched(contents: &BracketContents) -> AsciiBitmap
+    ensures { IsToldAscii contents.now result }
+{
+    let members = contents.cps.ascii_members();
+    if contents.invert {
+        members.inverted()
+    } else {
+        members
+    }
+}
+
+/// The characters of ASCII that each bracket matches.
+pub(crate) fn ascii_of_each(
+    alloc: Global,
+    brackets: &[BracketContents],
+) -> Result<Vec<AsciiBitmap>, AllocError>
+    ensures { IfOk result (λ told. AreToldAscii brackets.now told.items) }
+{
+    let mut told = Vec::new(alloc);
+    for contents in brackets {
+        told.push(ascii_matched(contents))?;
+    }
+    Ok(told)
+}
+
 /// Brackets of the same characters.
 pub(crate) fn copies_of(
     alloc: Global,

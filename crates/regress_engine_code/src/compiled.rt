@@ -1,16 +1,18 @@
 //! Programs as they are handed out.
-ghost use Rattle.std.specs.Prelude.{◌≡◌, IfOk, IfErr};
+ghost use Rattle.std.specs.Prelude.{◌≡◌, ◌<◌, length, slice_index, IfOk, IfErr};
 ghost use Rattle.std.specs.Arc.{arc_slice_items};
 ghost use Rattle.regress_engine_insn.specs.ProgramViews.{program_from, target_from};
 ghost use Rattle.regress_engine_analysis.specs.Planned.{ArePlanned};
 ghost use Rattle.regress_engine_analysis.specs.Shared.{facts_of};
 ghost use Rattle.regress_engine_analysis.specs.Submatches.{has_submatches};
 ghost use Rattle.regress_engine_code.specs.Laid.{IsLaid};
+ghost use Rattle.regress_engine_code.specs.Told.{AreToldAscii, IsToldAscii};
 
 use crate::brackets::copies_of;
 use regress_engine_analysis::{Known, Plan};
 use regress_engine_insn::Insn;
 use regress_engine_prefix::StartPredicate;
+use regress_front_bytes::AsciiBitmap;
 use regress_front_core::{CaptureGroupName, Error, Flags};
 use regress_front_nodes::BracketContents;
 use regress_front_tables::Tables;
@@ -23,6 +25,8 @@ use std::sync::ArcSlice;
 pub struct CompiledRegex {
     pub(crate) insns: Vec<Insn>,
     pub(crate) brackets: Vec<BracketContents>,
+    /// The characters of ASCII that each of them matches.
+    pub(crate) ascii: Vec<AsciiBitmap>,
     pub(crate) start_pred: StartPredicate,
     pub(crate) loops: u32,
     pub(crate) groups: u32,
@@ -34,6 +38,7 @@ pub struct CompiledRegex {
     pub(crate) plan: Plan,
     pub(crate) ghost laid: { ∥ IsLaid (target_from (program_from insns.items brackets.items loops groups units) tables flags) start_pred ∥₁ },
     pub(crate) ghost planned: { ArePlanned (program_from insns.items brackets.items loops groups units) (facts_of plan) },
+    pub(crate) ghost told: { AreToldAscii brackets.items ascii.items },
     pub(crate) ghost submatches: { plan.submatches ≡ has_submatches insns.items },
 }
 
@@ -53,6 +58,15 @@ impl CompiledRegex {
         ensures { result.now ≡ self.now.brackets.items }
     {
         &self.brackets
+    }
+
+    /// The characters of ASCII that a bracket matches: `program.ascii_of(2)` are those of `program.brackets()[2]`.
+    #[inline(always)]
+    pub fn ascii_of(&self, index: usize) -> &AsciiBitmap
+        requires { index < length self.now.brackets.items }
+        ensures { IsToldAscii (slice_index self.now.brackets.items index) result.now }
+    {
+        &self.ascii[index]
     }
 
     /// Where a match may begin, told by the bytes there; in a program of units by bytes below 0x80 alone, which stand for the units
@@ -139,6 +153,19 @@ impl CompiledRegex {
         self.plan.known(at)
     }
 
+    /// Where it goes on from several ways where a byte stands ahead, read forward, as long as of two ways one surely leads nowhere;
+    /// `None` where that is not told.
+    ///
+    /// ```rust
+    /// let way = program.way_from(0, b'x');
+    /// ```
+    #[inline(always)]
+    pub fn way_from(&self, at: usize, byte: u8) -> Option<usize>
+        ensures { IfSome result (λ way. LeadsTo self.now byte at way) }
+    {
+        self.plan.way_from(at, byte)
+    }
+
     /// Whether it has lookarounds or atomic groups: `program.has_submatches()` is true for `a(?=b)`.
     pub fn has_submatches(&self) -> bool
         ensures { result ≡ has_submatches self.now.insns.items }
@@ -158,6 +185,7 @@ impl CompiledRegex {
         Ok(CompiledRegex {
             insns: self.insns.to_vec(alloc)?,
             brackets: copies_of(alloc, &self.brackets)?,
+            ascii: self.ascii.to_vec(alloc)?,
             start_pred: self.start_pred.copy(alloc)?,
             loops: self.loops,
             groups: self.groups,
