@@ -55,6 +55,37 @@ pub fn after_times<Input: CharInput>(
     Some(behind)
 }
 
+/// The same for any instruction and direction, one by one. It is apart, so that no loop of a class makes room for it.
+#[inline(never)]
+fn as_far_slowly<Input: CharInput>(
+    program: &CompiledRegex,
+    input: &Input,
+    insn: &Insn,
+    times: usize,
+    forward: bool,
+    groups: &[GroupData<usize>],
+    offset: usize,
+) -> usize
+    requires suits { Suits (program_of program.now) (Input.view input.now) }
+    requires body { (at : ℕ) × Stands (program_of program.now) (at - 1) (instruction insn.now)
+        × IsBody (program_of program.now) (Input.view input.now) at offset }
+    requires groups { length groups.now ≡ program.now.groups }
+    ensures far { result ≡ as_far (program_of program.now) (input_of (Input.view input.now)) times
+        (instruction insn.now) (direction_of forward) (map marks_of groups.now) offset }
+    ensures place { IsAtPlace (reading_of (Input.view input.now)) result }
+{
+    let mut behind = offset;
+    let mut left = times;
+    while left > 0 {
+        let Some(next) = advance(program, input, insn, forward, groups, behind) else {
+            break;
+        };
+        behind = next;
+        left -= 1;
+    }
+    behind
+}
+
 /// The offset behind as many iterations of an instruction that takes one character as there are, at most so many.
 ///
 /// Asks the same as `after_times`.
@@ -85,14 +116,5 @@ pub fn as_far<Input: CharInput>(
             return far;
         }
     }
-    let mut behind = offset;
-    let mut left = times;
-    while left > 0 {
-        let Some(next) = advance(program, input, insn, forward, groups, behind) else {
-            break;
-        };
-        behind = next;
-        left -= 1;
-    }
-    behind
+    as_far_slowly(program, input, insn, times, forward, groups, offset)
 }

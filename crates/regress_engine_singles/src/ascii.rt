@@ -6,14 +6,14 @@ ghost use Rattle.regress_meaning.specs.Text.{holds};
 ghost use Rattle.regress_engine_input.specs.Views.{in_units, input_of, CanRead};
 ghost use Rattle.regress_engine_singles.specs.Passing.{IsAsciiAhead};
 
-use crate::class::ScannedBracket;
-use crate::stops::next_stop;
+use crate::class::ToldBracket;
+use crate::stops::{all_but, next_stop};
 use crate::unit_stops::next_other;
 use regress_engine_input::cursor::next;
 use regress_engine_input::{Direction, ElementType, Forward, InputIndexer, PositionType};
 use regress_engine_matchers::{MatchByteSet, SingleCharMatcher};
-use regress_engine_scanning::are_ascii;
-use regress_front_bytes::ByteSet;
+use regress_engine_scanning::{are_ascii, run_end, run_end_among};
+use regress_front_bytes::{AsciiBitmap, ByteSet};
 
 /// A test on the character ahead, which also tests numbers under 0x100.
 pub(crate) trait ByteMatcher<Input: InputIndexer>: SingleCharMatcher<Input, Forward> {
@@ -28,19 +28,42 @@ pub(crate) trait ByteMatcher<Input: InputIndexer>: SingleCharMatcher<Input, Forw
     {
         None
     }
+
+    /// The characters of ASCII that pass, where these are held as a set.
+    #[inline(always)]
+    fn passing(&self) -> Option<&AsciiBitmap>
+        ensures { IfSome result (λ set. (c : ℕ) → c < 0x80 → Self.passes self.now c ≡ ascii_bitmap_contains set.now c) }
+    {
+        None
+    }
 }
 
-impl<Input: InputIndexer, Bytes: ByteSet> ByteMatcher<Input> for MatchByteSet<'_, Bytes> {
+impl<Input: InputIndexer> ByteMatcher<Input> for MatchByteSet<'_, AsciiBitmap> {
     #[inline]
     fn has_byte(&self, byte: u8) -> bool {
         self.bytes.contains(byte)
     }
+
+    #[inline(always)]
+    fn passing(&self) -> Option<&AsciiBitmap> {
+        Some(self.bytes)
+    }
 }
 
-impl<Input: InputIndexer> ByteMatcher<Input> for ScannedBracket<'_> {
+impl<Input: InputIndexer> ByteMatcher<Input> for ToldBracket<'_> {
     #[inline]
     fn has_byte(&self, byte: u8) -> bool {
         self.has(u32::from(byte))
+    }
+
+    #[inline(always)]
+    fn stopped_by(&self) -> Option<[u8; 3]> {
+        all_but(self.bc)
+    }
+
+    #[inline(always)]
+    fn passing(&self) -> Option<&AsciiBitmap> {
+        Some(self.ascii)
     }
 }
 
@@ -88,6 +111,48 @@ impl<Input: InputIndexer> ByteMatcher<Input> for AllBut {
     }
 }
 
+/// So many characters are looked at before it is asked whether few characters stop a class.
+const NEAR: usize = 64;
+
+/// The same as `ascii_end` of all that is left of some bytes, where many may pass.
+#[inline(never)]
+fn far_end<Input: InputIndexer, Matcher: ByteMatcher<Input>>(
+    matcher: &Matcher,
+    set: &AsciiBitmap,
+    bytes: &[u8],
+    offset: usize,
+) -> usize
+    requires inside { offset ≤ length bytes.now }
+    requires set { (c : ℕ) → c < 0x80 → Matcher.passes matcher.now c ≡ ascii_bitmap_contains set.now c }
+    ensures { IsRun (ascii_bitmap_contains set.now) bytes.now offset (length bytes.now) result }
+{
+    if let Some(stops) = matcher.stopped_by() {
+        let far = next_stop(stops, bytes, offset);
+        if are_ascii(&bytes[offset..far]) {
+            return far;
+        }
+    }
+    run_end(set, bytes, offset, bytes.len())
+}
+
+/// The same among units.
+#[inline(never)]
+fn far_end_among<Input: InputIndexer, Matcher: ByteMatcher<Input>>(
+    matcher: &Matcher,
+    set: &AsciiBitmap,
+    units: &[u16],
+    offset: usize,
+) -> usize
+    requires inside { offset ≤ length units.now }
+    requires set { (c : ℕ) → c < 0x80 → Matcher.passes matcher.now c ≡ ascii_bitmap_contains set.now c }
+    ensures { IsRun (ascii_bitmap_contains set.now) units.now offset (length units.now) result }
+{
+    if let Some(stops) = matcher.stopped_by() {
+        return next_other(stops, units, offset);
+    }
+    run_end_among(set, units, offset, units.len())
+}
+
 /// The same as `ascii_end` over units.
 #[inline(always)]
 fn ascii_end_among<Input: InputIndexer, Matcher: ByteMatcher<Input>>(
@@ -105,6 +170,13 @@ fn ascii_end_among<Input: InputIndexer, Matcher: ByteMatcher<Input>>(
     ensures ascii { (k : ℕ) → offset ≤ k → k < result → IsAsciiAhead (Input.view input.now) k }
 {
     let end = offset + most.min(units.len() - offset);
+    if let Some(set) = matcher.passing() {
+        let near = run_end_among(set, units, offset, end.min(offset.saturating_add(NEAR)));
+        if near < end && near - offset == NEAR {
+            return far_end_among(matcher, set, &units[..end], near);
+        }
+        return near;
+    }
     if let Some(stops) = matcher.stopped_by() {
         return next_other(stops, &units[..end], offset);
     }
@@ -142,6 +214,13 @@ pub(crate) fn ascii_end<Input: InputIndexer, Matcher: ByteMatcher<Input>>(
         };
     };
     let end = offset + most.min(text.len() - offset);
+    if let Some(set) = matcher.passing() {
+        let near = run_end(set, text, offset, end.min(offset.saturating_add(NEAR)));
+        if near < end && near - offset == NEAR {
+            return far_end(matcher, set, &text[..end], near);
+        }
+        return near;
+    }
     if let Some(stops) = matcher.stopped_by() {
         let far = next_stop(stops, &text[..end], offset);
         if are_ascii(&text[offset..far]) {

@@ -30,6 +30,22 @@ pub fn first_byte(insn: &Insn) -> Option<u8>
     first_of(bytes_of(insn))
 }
 
+/// The character of ASCII, or byte, with which all begins that an instruction takes, where that is known: the first of its bytes, or
+/// its one character.
+///
+/// ```rust
+/// let first = first_alone(&Insn::Char(0x61)); // Some(b'a')
+/// ```
+#[inline]
+pub fn first_alone(insn: &Insn) -> Option<u8>
+    ensures { IfSome result (λ b. ((rest : List ℕ) × (instruction insn.now ≡ byte_seq (b ∷ rest))) ⊎ ((b < 0x80) × (instruction insn.now ≡ char b))) }
+{
+    match insn {
+        Insn::Char(c) if *c < 0x80 => Some(*c as u8),
+        _ => first_byte(insn),
+    }
+}
+
 /// Whether an instruction asks what stands beside an offset, and takes nothing, as `^` does.
 ///
 /// ```rust
