@@ -94,7 +94,13 @@ impl<'a, Input: ExecutorInput> Attempt<'a, Input> {
     {
         let insn = self.instruction(spot.at);
         match insn {
-            Insn::Goal => memory.leave(answer, spot),
+            Insn::Goal => {
+                // (with no lookaround and no atomic group there is one goal, and what is held is the answer)
+                if !self.program.has_submatches() {
+                    return Ok(None);
+                }
+                memory.leave(answer, spot)
+            }
             Insn::Jump { target } => {
                 spot.at = *target as usize;
                 Ok(Some(true))
