@@ -36,9 +36,7 @@ pub(crate) fn class_ahead<Input: CharInput>(
 {
     match insn {
         Insn::AsciiBracket(bitmap) => ascii_bracket(input, true, offset, bitmap),
-        Insn::Bracket(index) => {
-            bracket(input, true, offset, &ToldBracket::of(program, *index))
-        }
+        Insn::Bracket(index) => { bracket(input, true, offset, &ToldBracket::of(program, *index)) }
         _ => None,
     }
 }

@@ -13,6 +13,7 @@ use std::simd::prelude::*;
 
 /// The bit of each byte of a row of sixteen in its lower half, and in its upper half.
 const LOWER: [u8; 16] = [1, 2, 4, 8, 16, 32, 64, 128, 0, 0, 0, 0, 0, 0, 0, 0];
+
 const UPPER: [u8; 16] = [0, 0, 0, 0, 0, 0, 0, 0, 1, 2, 4, 8, 16, 32, 64, 128];
 
 /// A set of bytes as two tables by the upper half of a byte: which of the eight lower, and of the eight higher bytes with it are members.

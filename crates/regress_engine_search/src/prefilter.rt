@@ -6,8 +6,8 @@ ghost use Rattle.regress_engine_search.specs.Prefiltering.{IsNextHit, is_anchore
 use memchr::memmem::Finder;
 use regress_engine_prefix::StartPredicate;
 use regress_engine_scanning::{
-    find_byte_of, find_member, find_near, find_near_units, find_one, find_sequence, find_set, find_three,
-    find_two,
+    find_byte_of, find_member, find_near, find_near_units, find_one, find_sequence, find_set,
+    find_three, find_two,
 };
 
 /// Looks for what a start predicate says; a literal is prepared once.

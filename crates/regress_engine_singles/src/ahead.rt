@@ -116,11 +116,21 @@ fn as_far_members<Input: InputIndexer>(
     ensures { result ≡ scan_while (input_of (Input.view input.now)) (holds (members (ascii_bitmap_contains bitmap.now))) ahead times offset }
 {
     if let Some(text) = input.bytes() {
-        return run_end(bitmap, text, offset, offset + times.min(text.len() - offset));
+        return run_end(
+            bitmap,
+            text,
+            offset,
+            offset + times.min(text.len() - offset),
+        );
     }
     match input.units() {
         Some(units) if offset <= units.len() => {
-            run_end_among(bitmap, units, offset, offset + times.min(units.len() - offset))
+            run_end_among(
+                bitmap,
+                units,
+                offset,
+                offset + times.min(units.len() - offset),
+            )
         }
         _ => as_far_beside(input, &MatchByteSet { bytes: bitmap }, times, offset),
     }
