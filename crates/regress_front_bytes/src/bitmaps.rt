@@ -1,7 +1,7 @@
 //! Sets of bytes with a bit for each.
 ghost use Rattle.std.specs.Prelude.{◌≡◌, ℕ, ◌<◌, ◌≤◌, ◌==◌, ◌||◌, not, false, length, position};
 ghost use Rattle.regress_meaning.specs.Text.{holds};
-ghost use Rattle.regress_front_bytes.specs.ByteSets.{members};
+ghost use Rattle.regress_front_bytes.specs.ByteSets.{has_bit, members};
 ghost use Rattle.regress_front_bytes.specs.Bitmaps.{ascii_bitmap_contains, byte_bitmap_contains};
 
 use crate::byte_search::{ByteSearcher, ByteSet, find_by_fours};
@@ -26,6 +26,25 @@ impl AsciiBitmap {
             ≡ ascii_bitmap_contains self.old b || val == b }
     {
         self.0[usize::from(val / 8)] |= 1 << (val % 8);
+    }
+
+    /// Its rows of eight bits: bit `b % 8` of the row `b / 8` is that of the byte `b`. A set of `b'a'` alone has the bit 1 in row 12.
+    #[inline(always)]
+    pub fn rows(&self) -> &[u8; 16]
+        ensures { (b : ℕ) → ascii_bitmap_contains self.now b ≡ has_bit 8 result.now b }
+    {
+        &self.0
+    }
+
+    /// The set of the bytes under 0x80 that are no members: `AsciiBitmap::default().inverted()` holds all of these.
+    pub fn inverted(&self) -> AsciiBitmap
+        ensures { (b : ℕ) → b < 0x80 → ascii_bitmap_contains result b ≡ not (ascii_bitmap_contains self.now b) }
+    {
+        let mut inverted = *self;
+        for row in inverted.0.iter_mut() {
+            *row = !*row;
+        }
+        inverted
     }
 }
 
@@ -73,6 +92,14 @@ impl ByteBitmap {
         ensures { result ≡ byte_bitmap_contains self.now val }
     {
         self.0[usize::from(val / 16)] >> (val % 16) & 1 == 1
+    }
+
+    /// Its rows of sixteen bits: bit `b % 16` of the row `b / 16` is that of the byte `b`. `ByteBitmap::new(b"a")` has the bit 1 in row 6.
+    #[inline(always)]
+    pub fn rows(&self) -> &[u16; 16]
+        ensures { (b : ℕ) → byte_bitmap_contains self.now b ≡ has_bit 16 result.now b }
+    {
+        &self.0
     }
 
     /// Adds the byte `val`. After `set.set(0xFF)` the set holds `0xFF`.
