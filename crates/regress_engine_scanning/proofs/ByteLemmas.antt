@@ -1,12 +1,8 @@
 -- What is found of bytes and units: few of them, a literal, what stands behind an offset.
-use Rattle.std.specs.Prelude.{slice_get, slice_index, position, ◌==◌, ◌||◌}
-use Rattle.std.specs.List.{position_or_len}
+use Rattle.std.specs.Prelude.{slice_get, slice_index, ◌==◌, ◌||◌}
 use Rattle.std.proofs.Common.{◌≡◌, ◌≢◌, ◌⊎◌, inl, inr, ap₂, ℕ, zero, suc, ◌+◌, ◌-◌, ◌<◌, ◌≤◌, Bool, true, false, List, [], ◌∷◌, length, take, drop, Option, Some, None, refl, sym, ap, ◌∙◌, arith, length-drop, length-take}
 use Rattle.std.proofs.Math.Bool.{or-false}
-use Rattle.std.proofs.lemmas.Grind.{common_steps}
-use Rattle.std.proofs.lemmas.Bool.{cases_lt, cases_eq, eq-eqb, ne_eqb, true≢false}
-use Rattle.std.proofs.lemmas.List.Sums.{fails_before_first}
-use Rattle.std.proofs.lemmas.List.Quantifiers.{position-Some}
+use Rattle.std.proofs.lemmas.Bool.{cases_lt, cases_eq, eq-eqb, ne_eqb}
 use Rattle.memchr.proofs.lemmas.MatchLemmas.{OccursAt-part, OccursAt-from_part}
 use Rattle.std.proofs.lemmas.Option.{slice_get_within, slice_get-get_or}
 use Rattle.memchr.specs.Find.{IsFirstByte, FindsNeedle, OccursAt, is_byte, is_byte2, is_byte3}
@@ -67,19 +63,6 @@ module _ (test : ℕ → Bool) (bytes : List ℕ) where
       by_byte : (o : Option ℕ) → slice_get bytes k ≡ o → is_some_and o test ≡ true → k < length bytes
       by_byte None same is = absurd (cc)
       by_byte (Some b) same is = slice_get_within bytes k b same
-
-  -- and so is the first index that a list tells
-  pub position-least : (r : Option ℕ) → r ≡ position test bytes → IsLeast (λ k. is_some_and (slice_get bytes k) test ≡ true) 0 r
-  position-least None e = λ k low is.
-      let room = is-there k is in
-      let all : length bytes ≤ position_or_len test bytes = grind (arith, common_steps) in
-      absurd (true≢false (sym (sym (passes-there k room) ∙ is) ∙ fails_before_first test bytes k 0 (omega (arith, room, all))))
-  position-least (Some i) e =
-      let (inside, here, before) = position-Some test bytes i 0 (sym e) in (
-        omega arith,
-        passes-there i inside ∙ here,
-        λ k low high is. absurd (true≢false (sym (sym (passes-there k (is-there k is)) ∙ is) ∙ before k high)),
-      )
 
 -- ---- a literal
 

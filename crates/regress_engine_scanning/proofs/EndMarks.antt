@@ -62,27 +62,32 @@ take-there [] (suc n) i less = refl
 take-there (x ∷ xs) (suc n) zero less = refl
 take-there (x ∷ xs) (suc n) (suc i) less = take-there xs n i (omega (arith, less))
 
--- where a sequence stands, its ends do
-pub sequence-ends : (bytes units : List ℕ) (k first last : ℕ) → 0 < length bytes → first ≡ get_or bytes 0 first → last ≡ get_or bytes (length bytes - 1) last
-    → take (length bytes) (drop k units) ≡ bytes → has_ends first last (length bytes - 1) units k ≡ true
-sequence-ends bytes units k first last some begins ends stands =
-    let here : k ≡ k + 0 = omega arith in
-    and_from _ _ (ap (λ i. is_some_and (slice_get units i) (is_byte first)) here ∙ byte first 0 some begins)
-    (byte last (length bytes - 1) (omega (arith, some)) ends)
+-- where a sequence stands, two of its bytes do
+pub sequence-ends : (bytes units : List ℕ) (k near far first last : ℕ) → near ≤ far → far < length bytes → first ≡ get_or bytes near 0 → last ≡ get_or bytes far 0
+    → take (length bytes) (drop k units) ≡ bytes → has_ends first last (far - near) units (k + near) ≡ true
+sequence-ends bytes units k near far first last order inside begins ends stands =
+    let there : k + far ≡ k + near + (far - near) = omega (arith, order) in
+    and_from _ _ (byte first near (omega (arith, order, inside)) begins)
+    (ap (λ i. is_some_and (slice_get units i) (is_byte last)) (sym there) ∙ byte last far inside ends)
   where
     there : (i : ℕ) → i < length bytes → slice_get units (k + i) ≡ slice_get bytes i
     there i less = sym (slice_get-behind units k i) ∙ sym (take-there (drop k units) (length bytes) i less) ∙ ap (λ xs. slice_get xs i) stands
 
-    byte : (b i : ℕ) → i < length bytes → b ≡ get_or bytes i b → is_some_and (slice_get units (k + i)) (is_byte b) ≡ true
-    byte b i less e = ap (λ x. is_some_and x (is_byte b)) (there i less ∙ slice_get-get_or bytes i b less ∙ ap Some (sym e)) ∙ eq-eqb b b refl
+    byte : (b i : ℕ) → i < length bytes → b ≡ get_or bytes i 0 → is_some_and (slice_get units (k + i)) (is_byte b) ≡ true
+    byte b i less e = ap (λ x. is_some_and x (is_byte b)) (there i less ∙ slice_get-get_or bytes i 0 less ∙ ap Some (sym e)) ∙ eq-eqb b b refl
 
--- with no ends of it up to an index, and none behind before another, it stands nowhere before that
-pub none-before : (bytes units : List ℕ) (from at to first last : ℕ) → 0 < length bytes → first ≡ get_or bytes 0 first → last ≡ get_or bytes (length bytes - 1) last
-    → ((k : ℕ) → from ≤ k → k < at → ¬ (take (length bytes) (drop k units) ≡ bytes))
-    → ((k : ℕ) → at ≤ k → k < to → ¬ (has_ends first last (length bytes - 1) units k ≡ true))
-    → (k : ℕ) → from ≤ k → k < to → ¬ (take (length bytes) (drop k units) ≡ bytes)
-none-before bytes units from at to first last some begins ends before behind k low less stands =
-    elim (cases_lt k at) [
-      | inl soon ↦ before k low soon stands
-      | inr late ↦ behind k late less (sequence-ends bytes units k first last some begins ends stands)
-    ]
+-- a sequence and two of its bytes
+module _ (bytes units : List ℕ) (near far first last : ℕ) (order : near ≤ far) (inside : far < length bytes) (begins : first ≡ get_or bytes near 0) (ends : last ≡ get_or bytes far 0) where
+  abbrev stands_at : ℕ → Type 0
+  stands_at k = take (length bytes) (drop k units) ≡ bytes
+
+  abbrev meets : ℕ → Type 0
+  meets k = has_ends first last (far - near) units k ≡ true
+
+  -- where it stands nowhere up to an index, and the two nowhere behind before another, it stands nowhere before that
+  pub none-before : (from at start : ℕ) → ((k : ℕ) → from ≤ k → k < at → ¬ stands_at k) → ((k : ℕ) → at + near ≤ k → k < start + near → ¬ meets k) → (k : ℕ) → from ≤ k → k < start → ¬ stands_at k
+  none-before from at start before behind k low less stands =
+      elim (cases_lt k at) [
+        | inl soon ↦ before k low soon stands
+        | inr late ↦ behind (k + near) (omega (arith, late)) (omega (arith, less)) (sequence-ends bytes units k near far first last order inside begins ends stands)
+      ]

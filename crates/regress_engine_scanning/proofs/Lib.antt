@@ -1,5 +1,9 @@
 pub mod ByteLemmas
 pub mod AsciiLemmas
+pub mod AsciiRuns
+pub mod TableLemmas
+pub mod AsciiTables
+pub mod HalfTables
 pub mod ScanLemmas
 pub mod MarkLemmas
 pub mod NibbleLemmas

@@ -14,7 +14,7 @@ use Rattle.regress_engine_scanning.proofs.ByteLemmas.{passes-there, one-held, tw
 
 -- ---- marks of the members among some units
 
-map-same : (f g : ℕ → Bool) → ((x : ℕ) → f x ≡ g x) → (xs : List ℕ) → map f xs ≡ map g xs
+pub map-same : {X : Type 0} (f g : ℕ → X) → ((x : ℕ) → f x ≡ g x) → (xs : List ℕ) → map f xs ≡ map g xs
 map-same f g same [] = refl
 map-same f g same (x ∷ xs) = ap₂ (λ b bs. b ∷ bs) (same x) (map-same f g same xs)
 

@@ -4,3 +4,5 @@ pub mod NibbleSets
 pub mod BytePairs
 pub mod WordStarts
 pub mod Landmarks
+pub mod Runs
+pub mod Halves

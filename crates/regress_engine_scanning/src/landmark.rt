@@ -8,6 +8,7 @@ ghost use Rattle.regress_engine_scanning.specs.Least.{IsLeast};
 ghost use Rattle.regress_engine_scanning.specs.Landmarks.{IsLow, begins_by};
 ghost use Rattle.regress_engine_scanning.specs.Units.{AreAscii};
 
+use crate::byte_set::stands_at;
 use crate::unit::Unit;
 use regress_front_bytes::ByteBitmap;
 
@@ -18,18 +19,6 @@ pub enum Landmark {
     Ahead { distance: usize, byte: u8 },
     /// This byte, behind one or more other bytes of a set.
     BehindRun { run: ByteBitmap, byte: u8 },
-}
-
-/// Whether a byte of a set stands at an index.
-#[inline(always)]
-fn stands_at<U: Unit>(set: &ByteBitmap, units: &[U], index: usize) -> bool
-    requires { U.Fits (byte_bitmap_contains set.now) }
-    ensures { result ≡ is_some_and (slice_get (map U.number units.now) index) (byte_bitmap_contains set.now) }
-{
-    match units.get(index) {
-        Some(unit) => set.contains(unit.narrowed()),
-        None => false,
-    }
 }
 
 /// Where a byte of a set first stands from an index up to another.

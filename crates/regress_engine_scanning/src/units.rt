@@ -1,15 +1,13 @@
 //! Searches among 16-bit units for bytes, each of which is the unit of the same number.
-ghost use Rattle.std.specs.Prelude.{◌≡◌, ◌↔◌, ◌<◌, ◌≤◌, ◌+◌, ◌||◌, ℕ, Bool, true, nat_le, length, map, take, drop, IfSome, IsTrue};
+ghost use Rattle.std.specs.Prelude.{◌≡◌, ◌↔◌, ◌<◌, ◌≤◌, ◌+◌, ◌||◌, ℕ, Bool, true, nat_le, length, map, take, drop, IfSome, IsNone, IsTrue};
 ghost use Rattle.std.specs.Int.{bit_at};
 ghost use Rattle.std.specs.Simd.Lanes.{mask_l};
 ghost use Rattle.memchr.specs.Find.{OccursAt};
 ghost use Rattle.regress_meaning.specs.Text.{holds};
-ghost use Rattle.regress_front_bytes.specs.Bitmaps.{byte_bitmap_contains};
 ghost use Rattle.regress_engine_scanning.specs.Least.{IsLeast};
-ghost use Rattle.regress_engine_scanning.specs.Units.{AreAscii, IsNextUnit, has_ends};
+ghost use Rattle.regress_engine_scanning.specs.Units.{IsNextUnit, has_ends};
 
-use crate::unit::Unit;
-use regress_front_bytes::ByteBitmap;
+use memchr::arch::all::packedpair::Pair;
 use std::simd::prelude::*;
 
 /// How many units are tested at once.
@@ -139,25 +137,6 @@ pub fn find_member<Set: UnitSet>(set: &Set, units: &[u16], from: usize) -> Optio
     first_from(set, units, at)
 }
 
-/// Where a byte of a set first stands from an index on. Asks that all bytes of the set are below 0x80, and that the index lies
-/// among the units.
-///
-/// ```rust
-/// let index = find_byte_of(&ByteBitmap::new(b"bc"), &[0x61, 0x62], 0); // `Some(1)`
-/// ```
-pub fn find_byte_of(set: &ByteBitmap, units: &[u16], from: usize) -> Option<usize>
-    requires ascii { AreAscii (byte_bitmap_contains set.now) }
-    requires inside { from ≤ length units.now }
-    ensures { IsNextUnit (byte_bitmap_contains set.now) units.now from result }
-{
-    for index in from..units.len() {
-        if set.contains(units[index].narrowed()) {
-            return Some(index);
-        }
-    }
-    None
-}
-
 /// Whether these bytes stand at an index.
 fn stand_at(bytes: &[u8], units: &[u16], index: usize) -> bool
     requires { index ≤ length units.now }
@@ -246,6 +225,20 @@ fn find_ends(first: u8, last: u8, apart: usize, units: &[u16], from: usize) -> O
     first_ends(first, last, apart, units, at)
 }
 
+/// Where two of some bytes are that are rare in texts, the first one first. Of one byte both are that byte, and of none there is `None`.
+#[inline(always)]
+fn rare_of(bytes: &[u8]) -> Option<(usize, usize)>
+    ensures some { IfSome result (λ rare. (rare.0 ≤ rare.1) × (rare.1 < length bytes.now)) }
+    ensures none { IsNone result → length bytes.now ≡ 0 }
+{
+    if let Some(pair) = Pair::new(bytes) {
+        let first = usize::from(pair.index1());
+        let second = usize::from(pair.index2());
+        return Some((first.min(second), first.max(second)));
+    }
+    if bytes.is_empty() { None } else { Some((0, 0)) }
+}
+
 /// Where these bytes first stand from an index on. Asks that the index lies among the units.
 ///
 /// ```rust
@@ -255,15 +248,17 @@ pub fn find_sequence(bytes: &[u8], units: &[u16], from: usize) -> Option<usize>
     requires { from ≤ length units.now }
     ensures { IsLeast (λ k. take (length bytes.now) (drop k units.now) ≡ bytes.now) from result }
 {
-    let (Some(first), Some(last)) = (bytes.first(), bytes.last()) else {
+    let Some((near, far)) = rare_of(bytes) else {
         return Some(from);
     };
     let mut at = from;
-    while let Some(index) = find_ends(*first, *last, bytes.len() - 1, units, at) {
-        if stand_at(bytes, units, index) {
-            return Some(index);
+    while units.len() - at >= bytes.len() {
+        let index = find_ends(bytes[near], bytes[far], far - near, units, at + near)?;
+        let start = index - near;
+        if stand_at(bytes, units, start) {
+            return Some(start);
         }
-        at = index + 1;
+        at = start + 1;
     }
     None
 }

@@ -6,10 +6,9 @@ ghost use Rattle.regress_engine_search.specs.Prefiltering.{IsNextHit, is_anchore
 use memchr::memmem::Finder;
 use regress_engine_prefix::StartPredicate;
 use regress_engine_scanning::{
-    find_byte_of, find_member, find_near, find_near_units, find_one, find_sequence, find_three,
-    find_two,
+    find_byte_of, find_member, find_near, find_near_units, find_one, find_sequence, find_set,
+    find_three, find_two,
 };
-use regress_front_bytes::ByteSearcher;
 
 /// Looks for what a start predicate says; a literal is prepared once.
 #[derive(Debug, Drop)]
@@ -60,7 +59,7 @@ impl<'r> Prefilter<'r> {
                 Some(literal) => literal.find(bytes),
                 None => unreachable!(),
             },
-            StartPredicate::ByteBracket(set) => set.find_in(bytes),
+            StartPredicate::ByteBracket(set) => find_set(set, bytes),
             StartPredicate::ByteNear(set, landmark) => find_near(set, *landmark, bytes, 0),
             StartPredicate::BytePair(pair) => pair.find(bytes, 0),
             StartPredicate::WordStart(word) => word.find(bytes, 0),

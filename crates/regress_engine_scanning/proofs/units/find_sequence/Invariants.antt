@@ -2,12 +2,12 @@ use Rattle.std.proofs.Common.{◌≡◌, ℕ, ◌-◌, ◌<◌, ◌≤◌, lengt
 use Rattle.regress_engine_scanning.proofs.units.find_sequence.Given as goal
 
 -- they stand nowhere so far
-abbrev pub invariant-loop-index : goal.invariant-loop-index
-invariant-loop-index l = record {
+abbrev pub invariant-loop-at : goal.invariant-loop-at
+invariant-loop-at l = record {
   low : l.from ≤ l.at;
   high : l.at ≤ length l.units;
   none : (k : ℕ) → l.from ≤ k → k < l.at → ¬ (take (length l.bytes) (drop k l.units) ≡ l.bytes);
 }
 
-abbrev pub decreases-loop-index : goal.decreases-loop-index
-decreases-loop-index l = length l.units - l.at
+abbrev pub decreases-loop-at : goal.decreases-loop-at
+decreases-loop-at l = length l.units - l.at

@@ -1,9 +1,8 @@
 use Rattle.std.specs.Prelude.{◌≡◌, Some}
 use Rattle.std.proofs.Common.{subst, sym, ap, ◌∙◌}
 use Rattle.memchr.specs.Find.{FindsNeedle}
-use Rattle.regress_front_bytes.specs.Bitmaps.{byte_bitmap_contains}
 use Rattle.regress_engine_search.specs.Prefiltering.{IsNextHit, literal_of}
-use Rattle.regress_engine_scanning.proofs.ByteLemmas.{needle-least, position-least}
+use Rattle.regress_engine_scanning.proofs.ByteLemmas.{needle-least}
 use Rattle.regress_engine_search.proofs.prefilter.Prefilter.find_in.Goals as goal
 
 pub returns-in-Some-clause-first : goal.returns-in-Some-clause-first
@@ -15,8 +14,7 @@ returns-in-Some-clause-first c =
 
 pub returns-in-ByteBracket-clause-first : goal.returns-in-ByteBracket-clause-first
 returns-in-ByteBracket-clause-first c =
-    subst (λ p. IsNextHit p c.args.bytes.now 0 c.find_in.result) (sym c.in-ByteBracket.is)
-    (position-least (byte_bitmap_contains c.in-ByteBracket.set) c.args.bytes.now c.find_in.result c.find_in.ensures)
+    subst (λ p. IsNextHit p c.args.bytes.now 0 c.find_set.result) (sym c.in-ByteBracket.is) c.find_set.ensures.least
 
 pub returns-in-ByteNear-clause-first : goal.returns-in-ByteNear-clause-first
 returns-in-ByteNear-clause-first c =
