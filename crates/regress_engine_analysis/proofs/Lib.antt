@@ -3,3 +3,4 @@ pub mod FirstOfLemmas
 pub mod MayBeginLemmas
 pub mod PlanLemmas
 pub mod SharedLemmas
+pub mod WaysLemmas

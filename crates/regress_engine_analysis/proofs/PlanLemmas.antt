@@ -2,6 +2,7 @@
 use Rattle.std.specs.Prelude.{slice_get, get_or, option_map}
 use Rattle.std.proofs.Common.{◌≡◌, ◌≢◌, ℕ, ◌<◌, ◌≤◌, ◌⊎◌, inl, inr, Bool, true, false, List, length, map, Option, Some, None, refl, sym, ap, ◌∙◌, subst, arith}
 use Rattle.std.proofs.lemmas.Bool.{cases_lt, eqb-true, true≢false}
+use Rattle.std.proofs.lemmas.List.{length-map}
 use Rattle.std.proofs.lemmas.Option.{slice_get-map, slice_get-get_or, slice_get_past}
 use Rattle.regress_meaning.specs.Inputs.{is_continuation}
 use Rattle.regress_front_bytes.specs.Bitmaps.{byte_bitmap_contains}
@@ -13,6 +14,7 @@ use Rattle.regress_engine_insn.specs.declared.insn.Insn.{Insn}
 use Rattle.regress_engine_analysis.specs.declared.facts.Facts.{Facts}
 use Rattle.regress_engine_analysis.specs.declared.facts.Known.{Known}
 use Rattle.regress_engine_analysis.specs.declared.facts.Known.TheVariants.{Nothing}
+use Rattle.regress_engine_analysis.specs.declared.ways.Ways.{Ways}
 use Rattle.regress_engine_analysis.specs.MayBegin.{may_begin_with}
 use Rattle.regress_engine_analysis.specs.Planned.{AreApart, IsSo, ends_iteration, firsts, jumps_to, known_of, stands_as}
 
@@ -118,6 +120,10 @@ known-within facts at known e some = by_order (cases_lt at (length facts))
     by_order (inr past) = absurd (some (sym e ∙ known-past facts at past))
 
 -- and is so
-pub known-so : (program : Program) (sets : List ByteBitmap) (facts : List Facts) → ((at : ℕ) → at < length facts → IsSo program sets at (known_of facts at))
-    → (at : ℕ) (known : Known) → known_of facts at ≡ known → known ≢ Nothing → IsSo program sets at known
-known-so program sets facts so at known e some = subst (IsSo program sets at) e (so at (known-within facts at known e some))
+pub known-so : (program : Program) (sets : List ByteBitmap) (tables : List Ways) (facts : List Facts) → ((at : ℕ) → at < length facts → IsSo program sets tables at (known_of facts at))
+    → (at : ℕ) (known : Known) → known_of facts at ≡ known → known ≢ Nothing → IsSo program sets tables at known
+known-so program sets tables facts so at known e some = subst (IsSo program sets tables at) e (so at (known-within facts at known e some))
+
+-- as many addresses have facts as have first bytes
+pub firsts-size : (facts others : List Facts) → firsts facts ≡ firsts others → length facts ≡ length others
+firsts-size facts others same = sym (length-map facts (λ f. f.first)) ∙ ap length same ∙ length-map others (λ f. f.first)

@@ -4,6 +4,7 @@ use Rattle.regress_engine_analysis.specs.declared.facts.Facts.{Facts}
 use Rattle.regress_engine_analysis.specs.declared.facts.Known.TheVariants.{Nothing}
 use Rattle.regress_engine_analysis.specs.declared.shared.SharedFacts.{SharedFacts}
 use Rattle.regress_engine_analysis.specs.declared.plan.Plan.{Plan}
+use Rattle.regress_engine_analysis.specs.declared.ways.Ways.{Ways}
 
 -- what stands in for facts that are not there
 abbrev pub no_facts : Facts
@@ -20,3 +21,7 @@ shared s = placed s.facts.items s.places.items
 -- what a plan has of each address
 abbrev pub facts_of : Plan → List Facts
 facts_of plan = shared plan.facts
+
+-- the tables of a plan
+abbrev pub tables_of : Plan → List Ways
+tables_of plan = plan.ways.items

@@ -22,6 +22,8 @@ pub enum Known {
     /// Of two ways with which an iteration begins: the first is a class and nothing else, and where that takes a character no
     /// match can be reached by the second, nor behind the repetition.
     Turn(Turn),
+    /// Of several ways: the number of the table that tells where it goes on by the character ahead.
+    Ways(u32),
 }
 
 /// What is known of an address.

@@ -9,6 +9,7 @@ mod sets;
 mod shared;
 mod shortcuts;
 mod submatches;
+mod ways;
 
 pub use facts::{Facts, Known, Turn};
 pub use plan::Plan;

@@ -1,8 +1,8 @@
 //! What is known of an address besides its first bytes.
-ghost use Rattle.std.specs.Prelude.{◌≡◌, ◌+◌, ◌^◌, ℕ, ◌<◌, length, map, IfSome, OnOk};
+ghost use Rattle.std.specs.Prelude.{◌≡◌, ◌+◌, ◌^◌, ℕ, ◌<◌, [], length, map, IfSome, OnOk};
 ghost use Rattle.regress_engine_insn.specs.Instructions.{Program, Stands, alt};
 ghost use Rattle.regress_engine_insn.specs.InsnViews.{instruction};
-ghost use Rattle.regress_engine_analysis.specs.Planned.{IsSo, firsts, is_class, known_of};
+ghost use Rattle.regress_engine_analysis.specs.Planned.{IsSo, KeepsKnown, firsts, is_class};
 ghost use Rattle.regress_engine_analysis.specs.Shared.{shared};
 
 use crate::apart::are_apart;
@@ -28,7 +28,7 @@ pub fn is_class(insn: &Insn) -> bool
 fn turn_at(insns: &[Insn], facts: &SharedFacts, at: usize, second: usize) -> Option<Turn>
     requires { at + 2 < 2 ^ 64 }
     ensures { IfSome result (λ turn. (program : Program) → program.instructions ≡ map instruction insns.now → Stands program at (alt second)
-        → IsSo program (firsts (shared facts.now)) at (Known.Turn turn)) }
+        → IsSo program (firsts (shared facts.now)) [] at (Known.Turn turn)) }
 {
     if at + 2 >= insns.len() || !is_class(&insns[at + 1]) {
         return None;
@@ -63,7 +63,7 @@ fn turn_at(insns: &[Insn], facts: &SharedFacts, at: usize, second: usize) -> Opt
 /// What is known of an address besides its first bytes, by all first bytes.
 fn known_at(insns: &[Insn], facts: &SharedFacts, at: usize) -> Known
     requires { at + 2 < 2 ^ 64 }
-    ensures { (program : Program) → program.instructions ≡ map instruction insns.now → IsSo program (firsts (shared facts.now)) at result }
+    ensures { (program : Program) → program.instructions ≡ map instruction insns.now → IsSo program (firsts (shared facts.now)) [] at result }
 {
     if at >= insns.len() {
         return Known::Nothing;
@@ -87,9 +87,7 @@ pub(crate) fn add_known(
     requires inside { at < length (shared facts.old) }
     requires fits { at + 2 < 2 ^ 64 }
     ensures first { OnOk result (firsts (shared facts.new) ≡ firsts (shared facts.old)) }
-    ensures known { OnOk result ((program : Program) → program.instructions ≡ map instruction insns.now
-        → ((k : ℕ) → IsSo program (firsts (shared facts.old)) k (known_of (shared facts.old) k))
-        → (k : ℕ) → IsSo program (firsts (shared facts.old)) k (known_of (shared facts.new) k)) }
+    ensures known { OnOk result (KeepsKnown insns.now (firsts (shared facts.old)) [] (shared facts.old) [] (shared facts.new)) }
 {
     let known = known_at(insns, facts, at);
     if matches!(known, Known::Nothing) {

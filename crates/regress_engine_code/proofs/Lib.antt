@@ -7,3 +7,4 @@ pub mod JumpLemmas
 pub mod ArmLemmas
 pub mod StandingLemmas
 pub mod ServingLemmas
+pub mod ToldLemmas

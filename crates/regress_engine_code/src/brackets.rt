@@ -9,6 +9,7 @@ ghost use Rattle.regress_front_nodes.specs.TreeMeaning.{bracket_has};
 ghost use Rattle.regress_engine_insn.specs.ProgramViews.{bracket_ends};
 ghost use Rattle.regress_engine_code.specs.Written.{written, MayRefuse};
 ghost use Rattle.regress_engine_code.specs.Emitting.{Emits};
+ghost use Rattle.regress_engine_code.specs.Told.{IsToldAscii, AreToldAscii};
 
 use crate::code::Code;
 use crate::emitter::Emitter;
@@ -27,6 +28,32 @@ fn ascii_bitmap(contents: &BracketContents) -> Option<AsciiBitmap>
         return None;
     }
     Some(contents.cps.ascii_members())
+}
+
+/// The characters of ASCII that a bracket matches.
+fn ascii_matched(contents: &BracketContents) -> AsciiBitmap
+    ensures { IsToldAscii contents.now result }
+{
+    let members = contents.cps.ascii_members();
+    if contents.invert {
+        members.inverted()
+    } else {
+        members
+    }
+}
+
+/// The characters of ASCII that each bracket matches.
+pub(crate) fn ascii_of_each(
+    alloc: Global,
+    brackets: &[BracketContents],
+) -> Result<Vec<AsciiBitmap>, AllocError>
+    ensures { IfOk result (λ told. AreToldAscii (map bracket_ends brackets.now) told.items) }
+{
+    let mut told = Vec::new(alloc);
+    for contents in brackets {
+        told.push(ascii_matched(contents))?;
+    }
+    Ok(told)
 }
 
 /// Brackets of the same characters.

@@ -1,16 +1,18 @@
 //! Programs as they are handed out.
-ghost use Rattle.std.specs.Prelude.{◌≡◌, IfOk, IfErr};
+ghost use Rattle.std.specs.Prelude.{◌≡◌, ◌<◌, length, map, slice_index_or, IfOk, IfErr, IfSome};
 ghost use Rattle.std.specs.Arc.{arc_slice_items};
-ghost use Rattle.regress_engine_insn.specs.ProgramViews.{program_from, target_from};
-ghost use Rattle.regress_engine_analysis.specs.Planned.{ArePlanned};
-ghost use Rattle.regress_engine_analysis.specs.Shared.{facts_of};
+ghost use Rattle.regress_engine_insn.specs.ProgramViews.{bracket_ends, program_from, target_from};
+ghost use Rattle.regress_engine_analysis.specs.Planned.{ArePlanned, AreTabled};
+ghost use Rattle.regress_engine_analysis.specs.Shared.{facts_of, tables_of};
 ghost use Rattle.regress_engine_analysis.specs.Submatches.{has_submatches};
 ghost use Rattle.regress_engine_code.specs.Laid.{IsLaid};
+ghost use Rattle.regress_engine_code.specs.Told.{AreToldAscii};
 
 use crate::brackets::copies_of;
 use regress_engine_analysis::{Known, Plan};
 use regress_engine_insn::Insn;
 use regress_engine_prefix::StartPredicate;
+use regress_front_bytes::AsciiBitmap;
 use regress_front_core::{CaptureGroupName, Error, Flags};
 use regress_front_nodes::BracketContents;
 use regress_front_tables::Tables;
@@ -23,6 +25,8 @@ use std::sync::ArcSlice;
 pub struct CompiledRegex {
     pub(crate) insns: Vec<Insn>,
     pub(crate) brackets: Vec<BracketContents>,
+    /// The characters of ASCII that each of them matches.
+    pub(crate) ascii: Vec<AsciiBitmap>,
     pub(crate) start_pred: StartPredicate,
     pub(crate) loops: u32,
     pub(crate) groups: u32,
@@ -34,12 +38,17 @@ pub struct CompiledRegex {
     pub(crate) plan: Plan,
     pub(crate) ghost laid: { ∥ IsLaid (target_from (program_from insns.items brackets.items loops groups units) tables flags) start_pred ∥₁ },
     pub(crate) ghost planned: { ArePlanned (program_from insns.items brackets.items loops groups units) (facts_of plan) },
+    pub(crate) ghost told: { AreToldAscii (map bracket_ends brackets.items) ascii.items },
+    pub(crate) ghost tabled: { AreTabled (program_from insns.items brackets.items loops groups units) (facts_of plan) (tables_of plan) },
     pub(crate) ghost submatches: { plan.submatches ≡ has_submatches insns.items },
 }
 
 impl CompiledRegex {
-    ghost use Rattle.regress_engine_analysis.specs.Planned.{known_of};
-    ghost use Rattle.regress_engine_code.specs.Standing.{IsCopyOf, cannot_begin_with};
+    ghost use Rattle.regress_engine_analysis.specs.Planned.{known_of, firsts};
+    ghost use Rattle.regress_front_nodes.specs.declared.node.BracketContents.{BracketContents};
+    ghost use Rattle.regress_engine_code.specs.Standing.{IsCopyOf, cannot_begin_with, program_of};
+    ghost use Rattle.regress_engine_code.specs.Told.{IsToldAscii};
+    ghost use Rattle.regress_engine_analysis.specs.Ways.{way_before};
 
     /// The instructions. An address is an index into them, and the program begins at 0: `program.insns()[0]` is done first.
     pub fn insns(&self) -> &[Insn]
@@ -53,6 +62,15 @@ impl CompiledRegex {
         ensures { result.now ≡ self.now.brackets.items }
     {
         &self.brackets
+    }
+
+    /// The characters of ASCII that a bracket matches: `program.ascii_of(2)` are those of `program.brackets()[2]`.
+    #[inline(always)]
+    pub fn ascii_of(&self, index: usize) -> &AsciiBitmap
+        requires { index < length self.now.brackets.items }
+        ensures { (class : BracketContents) → class ≡ slice_index_or self.now.brackets.items index class → IsToldAscii class result.now }
+    {
+        &self.ascii[index]
     }
 
     /// Where a match may begin, told by the bytes there; in a program of units by bytes below 0x80 alone, which stand for the units
@@ -139,6 +157,19 @@ impl CompiledRegex {
         self.plan.known(at)
     }
 
+    /// Where it goes on from an address, read forward, where a byte stands ahead: as long as of two ways one surely leads nowhere, by the
+    /// other. Of `ab|cd` at address 0 it goes on where `cd` begins before the byte `c`.
+    ///
+    /// ```rust
+    /// let way = program.way_from(0, b'x');
+    /// ```
+    #[inline(always)]
+    pub fn way_from(&self, at: usize, byte: u8) -> usize
+        ensures { result ≡ way_before (program_of self.now) (firsts (facts_of self.now.plan)) byte at }
+    {
+        self.plan.way_from(&self.insns, at, byte)
+    }
+
     /// Whether it has lookarounds or atomic groups: `program.has_submatches()` is true for `a(?=b)`.
     pub fn has_submatches(&self) -> bool
         ensures { result ≡ has_submatches self.now.insns.items }
@@ -158,6 +189,7 @@ impl CompiledRegex {
         Ok(CompiledRegex {
             insns: self.insns.to_vec(alloc)?,
             brackets: copies_of(alloc, &self.brackets)?,
+            ascii: self.ascii.to_vec(alloc)?,
             start_pred: self.start_pred.copy(alloc)?,
             loops: self.loops,
             groups: self.groups,

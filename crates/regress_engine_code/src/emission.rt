@@ -7,6 +7,7 @@ ghost use Rattle.regress_engine_prefix.specs.Starts.{Serves, KeepsLiteral, IsAnc
 ghost use Rattle.regress_engine_code.specs.Written.{MayRefuse};
 ghost use Rattle.regress_engine_code.specs.Standing.{length_for, StandsFor};
 
+use crate::brackets::ascii_of_each;
 use crate::code::Code;
 use crate::compiled::CompiledRegex;
 use crate::emitter::Emitter;
@@ -100,9 +101,11 @@ fn whole_program(alloc: Global, regex: &Regex<'_>, units: bool) -> Result<Compil
     let start_pred = start_of(alloc, regex, units)?;
     let tables = regex.tables.try_clone()?;
     let plan = Plan::new(alloc, &code.insns, &code.brackets, units)?;
+    let ascii = ascii_of_each(alloc, &code.brackets)?;
     Ok(CompiledRegex {
         insns: code.insns,
         brackets: code.brackets,
+        ascii,
         start_pred,
         loops: u32::from(code.loops),
         groups,

@@ -1,4 +1,4 @@
-use Rattle.std.proofs.Common.{ℕ, List, sym, ap, ◌∙◌, subst}
+use Rattle.std.proofs.Common.{ℕ, List, [], sym, ap, ◌∙◌, subst}
 use Rattle.std.proofs.lemmas.Result.{IfOk-weaker}
 use Rattle.std.proofs.Math.Seq.{map-set_same}
 use Rattle.regress_engine_analysis.specs.declared.facts.Facts.{Facts}
@@ -20,5 +20,5 @@ returns-clause-known c =
     let f : Facts = record { first = c.at.result.now.first; known = c.known_at-known.result } in
     IfOk-weaker c.put.result _ _
     (λ _ is program same so.
-    subst (λ (fs : List Facts). (k : ℕ) → IsSo program (firsts facts) k (known_of fs k)) (sym is)
-    (known-set (λ k known. IsSo program (firsts facts) k known) facts c.args.at f c.requires.inside (c.known_at-known.ensures program same) so)) c.put.ensures
+    subst (λ (fs : List Facts). (k : ℕ) → IsSo program (firsts facts) [] k (known_of fs k)) (sym is)
+    (known-set (λ k known. IsSo program (firsts facts) [] k known) facts c.args.at f c.requires.inside (c.known_at-known.ensures program same) so)) c.put.ensures

@@ -12,11 +12,12 @@ use Rattle.regress_front_nodes.specs.Names.{names_in, name_texts}
 use Rattle.regress_front_nodes.specs.WellFormed.{IsWellFormed}
 use Rattle.regress_front_nodes.proofs.NameLemmas.{names-counted}
 use Rattle.regress_engine_insn.specs.InsnViews.{instruction}
-use Rattle.regress_engine_analysis.specs.Planned.{ArePlanned}
-use Rattle.regress_engine_analysis.specs.Shared.{facts_of}
+use Rattle.regress_engine_analysis.specs.Planned.{ArePlanned, AreTabled}
+use Rattle.regress_engine_analysis.specs.Shared.{facts_of, tables_of}
 use Rattle.regress_engine_analysis.specs.Submatches.{has_submatches}
-use Rattle.regress_engine_insn.specs.ProgramViews.{program_from}
+use Rattle.regress_engine_insn.specs.ProgramViews.{bracket_ends, program_from}
 use Rattle.regress_engine_insn.specs.Layout.{Target, IsLayout}
+use Rattle.regress_engine_code.specs.Told.{AreToldAscii}
 use Rattle.regress_engine_code.specs.Written.{written, AddsTree}
 use Rattle.regress_engine_insn.proofs.BeginLemmas.{all-begin}
 use Rattle.regress_engine_code.proofs.EmitLemmas.{err-refused}
@@ -87,6 +88,10 @@ invariant_of-result c =
       planned = subst (λ brackets. ArePlanned (program_from c.node.new.code.insns.items brackets c.from.result c.in_ok-groups.groups c.args.units) (facts_of c.in_ok-plan.plan)) c.deref-3.ensures.value
           (subst (λ insns. ArePlanned (program_from insns c.deref-3.result.now c.from.result c.in_ok-groups.groups c.args.units) (facts_of c.in_ok-plan.plan)) c.deref-2.ensures.value
           (c.in_ok-plan.ensures.planned c.from.result c.in_ok-groups.groups));
+      told = subst (λ brackets. AreToldAscii (map bracket_ends brackets) c.in_ok-ascii.ascii.items) c.deref-4.ensures.value c.in_ok-ascii.ensures;
+      tabled = subst (λ brackets. AreTabled (program_from c.node.new.code.insns.items brackets c.from.result c.in_ok-groups.groups c.args.units) (facts_of c.in_ok-plan.plan) (tables_of c.in_ok-plan.plan)) c.deref-3.ensures.value
+          (subst (λ insns. AreTabled (program_from insns c.deref-3.result.now c.from.result c.in_ok-groups.groups c.args.units) (facts_of c.in_ok-plan.plan) (tables_of c.in_ok-plan.plan)) c.deref-2.ensures.value
+          (c.in_ok-plan.ensures.tabled c.from.result c.in_ok-groups.groups));
       submatches = c.in_ok-plan.ensures.submatches ∙ ap has_submatches c.deref-2.ensures.value;
     }
 
