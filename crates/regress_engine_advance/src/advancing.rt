@@ -8,13 +8,14 @@ ghost use Rattle.regress_engine_search.specs.Search.{Suits};
 ghost use Rattle.regress_engine_search.specs.StateViews.{marks_of};
 ghost use Rattle.regress_engine_search.specs.Ready.{IsReady};
 
-use crate::characters::{any, any_in_line, ascii_bracket, bracket, byte_set, char_set, this_char};
+use crate::characters::{any, ascii_member, bracket, byte_set, char_set, in_line, this_char};
 use crate::edges::{boundary, line_edge};
 use crate::literals::{byte_seq, one_byte};
 use crate::references::back_reference;
 use regress_engine_code::CompiledRegex;
 use regress_engine_insn::Insn;
 use regress_engine_matchers::CharInput;
+use regress_engine_singles::ToldBracket;
 use regress_front_core::GroupData;
 
 /// The offset to which an instruction leads, forward or backward, that changes nothing but the offset, where it leads to any.
@@ -45,10 +46,12 @@ pub fn advance<Input: CharInput>(
         Insn::ByteSet2(set) => byte_set(input, forward, offset, &set.0),
         Insn::ByteSet3(set) => byte_set(input, forward, offset, &set.0),
         Insn::ByteSet4(set) => byte_set(input, forward, offset, &set.0),
-        Insn::AsciiBracket(bitmap) => ascii_bracket(input, forward, offset, bitmap),
-        Insn::Bracket(index) => bracket(input, forward, offset, &program.brackets()[*index]),
+        Insn::AsciiBracket(bitmap) => ascii_member(input, forward, offset, bitmap),
+        Insn::Bracket(index) => {
+            bracket(input, forward, offset, &ToldBracket::of(program, *index))
+        }
         Insn::MatchAny => any(input, forward, offset),
-        Insn::MatchAnyExceptLineTerminator => any_in_line(input, forward, offset),
+        Insn::MatchAnyExceptLineTerminator => in_line(input, forward, offset),
         Insn::StartOfLine { multiline } => {
             line_edge(input, false, *multiline, offset).then_some(offset)
         }

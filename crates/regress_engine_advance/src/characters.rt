@@ -5,17 +5,15 @@ ghost use Rattle.regress_meaning.specs.Meaning.{is_line_end};
 ghost use Rattle.regress_meaning.specs.Steps.{passed};
 ghost use Rattle.regress_front_bytes.specs.ByteSets.{members};
 ghost use Rattle.regress_front_bytes.specs.Bitmaps.{ascii_bitmap_contains};
-ghost use Rattle.regress_front_sets.specs.Intervals.{ends_of};
-ghost use Rattle.regress_front_nodes.specs.TreeMeaning.{bracket_has};
 ghost use Rattle.regress_engine_input.specs.Views.{direction_of, input_of, CanRead};
+ghost use Rattle.regress_engine_singles.specs.Passing.{class_has};
 
 use crate::reading::beside;
 use regress_engine_input::{ElementType, InputIndexer};
 use regress_engine_matchers::{CharInput, CharProperties};
-use regress_engine_singles::ScannedBracket;
+use regress_engine_singles::ToldBracket;
 use regress_front_bytes::{AsciiBitmap, ByteSet};
 use regress_front_core::MAX_CHAR_SET_LENGTH;
-use regress_front_nodes::BracketContents;
 use regress_front_tables::charset_contains;
 
 /// Whether a number is that of one of these bytes.
@@ -116,6 +114,30 @@ pub fn ascii_bracket<Input: InputIndexer>(
     }
 }
 
+/// The same; ahead in bytes it is told by the byte alone.
+#[inline(always)]
+pub(crate) fn ascii_member<Input: InputIndexer>(
+    input: &Input,
+    forward: bool,
+    offset: usize,
+    bitmap: &AsciiBitmap,
+) -> Option<usize>
+    requires { CanRead (Input.view input.now) offset }
+    ensures { result ≡ passed (holds (members (ascii_bitmap_contains bitmap.now))) ((input_of (Input.view input.now)).next (direction_of forward) offset) }
+{
+    if forward {
+        if let Some(text) = input.bytes() {
+            let _rows = &bitmap.rows()[..];
+            return if offset < text.len() && bitmap.contains(text[offset]) {
+                Some(offset + 1)
+            } else {
+                None
+            };
+        }
+    }
+    ascii_bracket(input, forward, offset, bitmap)
+}
+
 /// The offset behind the character beside one.
 ///
 /// Asks that characters may be read from the offset on.
@@ -152,6 +174,19 @@ pub fn any_in_line<Input: CharInput>(input: &Input, forward: bool, offset: usize
     }
 }
 
+/// The same, apart, so that no step makes room for it.
+#[inline(never)]
+pub(crate) fn in_line<Input: CharInput>(
+    input: &Input,
+    forward: bool,
+    offset: usize,
+) -> Option<usize>
+    requires { CanRead (Input.view input.now) offset }
+    ensures { result ≡ passed (λ c. not (is_line_end c)) ((input_of (Input.view input.now)).next (direction_of forward) offset) }
+{
+    any_in_line(input, forward, offset)
+}
+
 /// The offset behind the character beside one, where a class matches that.
 ///
 /// Asks that characters may be read from the offset on.
@@ -164,14 +199,13 @@ pub fn bracket<Input: InputIndexer>(
     input: &Input,
     forward: bool,
     offset: usize,
-    class: &BracketContents,
+    class: &ToldBracket<'_>,
 ) -> Option<usize>
     requires { CanRead (Input.view input.now) offset }
-    ensures { result ≡ passed (bracket_has class.now.invert (ends_of class.now.cps.intervals.items))
-        ((input_of (Input.view input.now)).next (direction_of forward) offset) }
+    ensures { result ≡ passed (class_has class.now.bc.now) ((input_of (Input.view input.now)).next (direction_of forward) offset) }
 {
     let (c, past) = beside(input, forward, offset)?;
-    if (ScannedBracket { bc: class }).has(c.as_u32()) {
+    if class.has(c.as_u32()) {
         Some(past)
     } else {
         None

@@ -11,7 +11,7 @@ ghost use Rattle.regress_engine_runs.specs.Runs.{advance};
 ghost use Rattle.regress_engine_runs.specs.Closed.{Fits};
 
 use regress_engine_code::CompiledRegex;
-use regress_engine_input::{Backward, Direction, Forward, InputIndexer, PositionType};
+use regress_engine_input::{Backward, Direction, InputIndexer, PositionType};
 use regress_engine_insn::{Insn, bytes_of};
 
 /// Whether another byte stands ahead of an offset, or none. The offset may be any.
@@ -33,6 +33,26 @@ pub fn other_ahead<Input: InputIndexer>(input: &Input, offset: usize, byte: u8) 
     input.peek_byte_right(position) != Some(byte)
 }
 
+/// The offset behind some bytes ahead of one, where they stand there. The offset may be any. They are looked at one by one, since
+/// most that do not stand there differ in the first few.
+#[inline(always)]
+fn bytes_ahead<Input: InputIndexer>(input: &Input, offset: usize, bytes: &[u8]) -> Option<usize>
+    requires kind { are_bytes (Input.view input.now).kind ≡ true }
+    requires some { 0 < length bytes.now }
+    ensures { result ≡ literal (input_of (Input.view input.now)) ahead bytes.now offset }
+{
+    let text = input.bytes()?;
+    if offset > text.len() || text.len() - offset < bytes.len() {
+        return None;
+    }
+    for k in 0..bytes.len() {
+        if text[offset + k] != bytes[k] {
+            return None;
+        }
+    }
+    Some(offset + bytes.len())
+}
+
 /// The offset behind some bytes beside one, where they stand there. The offset may be any.
 ///
 /// Asks that the text is one of bytes, and that there is a byte.
@@ -51,19 +71,14 @@ pub fn bytes_beside<Input: InputIndexer>(
     requires some { 0 < length bytes.now }
     ensures { result ≡ literal (input_of (Input.view input.now)) (direction_of forward) bytes.now offset }
 {
+    if forward {
+        return bytes_ahead(input, offset, bytes);
+    }
     if offset > input.pos_to_offset(input.right_end()) {
         return None;
     }
     let mut position = <Input::Position as PositionType>::new(offset);
-    if forward && input.peek_byte_right(position) != Some(bytes[0]) {
-        return None;
-    }
-    let stand = if forward {
-        input.match_bytes(Forward::new(), &mut position, bytes)
-    } else {
-        input.match_bytes(Backward::new(), &mut position, bytes)
-    };
-    if stand {
+    if input.match_bytes(Backward::new(), &mut position, bytes) {
         Some(input.pos_to_offset(position))
     } else {
         None

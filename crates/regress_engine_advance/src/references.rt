@@ -1,5 +1,5 @@
 //! What a group took, once more.
-ghost use Rattle.std.specs.Prelude.{◌≡◌, Some, IfSome};
+ghost use Rattle.std.specs.Prelude.{◌≡◌, ◌≢◌, true, Some, IfSome, slice_get};
 ghost use Rattle.regress_meaning.specs.Steps.{repeated};
 ghost use Rattle.regress_engine_input.specs.Views.{direction_of, input_of, reading_of};
 ghost use Rattle.regress_engine_runs.specs.States.{range_of};
@@ -40,6 +40,22 @@ fn once_more<Input: CharInput, Dir: Direction>(
     }
 }
 
+/// Whether other units stand ahead of two offsets, as the first of them tells. The offsets may be any.
+#[inline(always)]
+fn is_other<Input: InputIndexer>(input: &Input, start: usize, offset: usize) -> bool
+    ensures { result ≡ true → slice_get (Input.view input.now).units start ≢ slice_get (Input.view input.now).units offset }
+{
+    if let Some(text) = input.bytes() {
+        return start < text.len() && (offset >= text.len() || text[start] != text[offset]);
+    }
+    match input.units() {
+        Some(units) => {
+            start < units.len() && (offset >= units.len() || units[start] != units[offset])
+        }
+        None => false,
+    }
+}
+
 /// The offset behind what a group took, where that stands beside an offset once more, and the offset itself where the group
 /// took nothing.
 #[inline]
@@ -57,6 +73,9 @@ pub(crate) fn back_reference<Input: CharInput>(
     let (Some(start), Some(end)) = (group.start, group.end) else {
         return Some(offset);
     };
+    if forward && !icase && start < end && is_other(input, start, offset) {
+        return None;
+    }
     if forward {
         once_more(input, Forward::new(), icase, start..end, offset)
     } else {

@@ -85,6 +85,28 @@ pub fn as_far<Input: CharInput>(
             return far;
         }
     }
+    as_far_slowly(program, input, insn, times, forward, groups, offset)
+}
+
+/// The same for any instruction and direction, one by one. It is apart, so that no loop of a class makes room for it.
+#[inline(never)]
+fn as_far_slowly<Input: CharInput>(
+    program: &CompiledRegex,
+    input: &Input,
+    insn: &Insn,
+    times: usize,
+    forward: bool,
+    groups: &[GroupData<usize>],
+    offset: usize,
+) -> usize
+    requires suits { Suits (program_of program.now) (Input.view input.now) }
+    requires body { (at : ℕ) × Stands (program_of program.now) (at - 1) (instruction insn.now)
+        × IsBody (program_of program.now) (Input.view input.now) at offset }
+    requires groups { length groups.now ≡ program.now.groups }
+    ensures far { result ≡ as_far (program_of program.now) (input_of (Input.view input.now)) times
+        (instruction insn.now) (direction_of forward) (map marks_of groups.now) offset }
+    ensures place { IsAtPlace (reading_of (Input.view input.now)) result }
+{
     let mut behind = offset;
     let mut left = times;
     while left > 0 {

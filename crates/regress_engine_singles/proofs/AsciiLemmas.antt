@@ -1,7 +1,7 @@
 -- Characters of ASCII that stand ahead, one after another.
 use Rattle.std.specs.Prelude.{slice_index, get_or, ◌==◌}
-use Rattle.std.proofs.Common.{◌≡◌, ◌⊎◌, inl, inr, ℕ, suc, ◌+◌, ◌-◌, ◌<◌, ◌≤◌, Bool, true, false, not, List, [], ◌∷◌, length, take, drop, length-take, length-drop, Some, None, if◌then◌else◌, refl, sym, ap, ◌∙◌, subst, arith}
-use Rattle.std.proofs.lemmas.Bool.{cases_lt, eq-eqb}
+use Rattle.std.proofs.Common.{◌≡◌, ℕ, suc, ◌+◌, ◌-◌, ◌<◌, ◌≤◌, Bool, true, false, not, List, [], ◌∷◌, length, take, drop, length-take, length-drop, Some, None, if◌then◌else◌, refl, sym, ap, ◌∙◌, subst, arith}
+use Rattle.std.proofs.lemmas.Bool.{eq-eqb}
 use Rattle.std.proofs.lemmas.Bool.Decides.{nat_tests}
 use Rattle.std.proofs.lemmas.List.{get_or-take, get_or-drop}
 use Rattle.std.proofs.lemmas.List.Folds.{list_any_at}
@@ -11,7 +11,7 @@ use Rattle.regress_meaning.specs.Text.{holds}
 use Rattle.regress_meaning.specs.Steps.{passed}
 use Rattle.regress_engine_input.specs.Views.{View, input_of}
 use Rattle.regress_engine_scanning.specs.Units.{AreAscii}
-use Rattle.regress_engine_singles.specs.Passing.{IsAsciiAhead, StopsAt}
+use Rattle.regress_engine_singles.specs.Passing.{IsAsciiAhead, IsLowRun}
 use Rattle.regress_engine_singles.proofs.ByteLemmas.{unit-next}
 
 -- a byte of ASCII is the character ahead, and so is a unit
@@ -22,20 +22,18 @@ ascii-ahead v o inside low = record { low = low; next = unit-next v.kind v.table
 pub ascii-passes : (v : View) (passes : ℕ → Bool) (o : ℕ) → IsAsciiAhead v o → passes (slice_index v.units o) ≡ true → Some (suc o) ≡ passed passes ((input_of v).next Forward o)
 ascii-passes v passes o ahead e = sym (ap (passed passes) ahead.next ∙ ap (λ t. if t then Some (suc o) else None) e)
 
+-- and does not where its byte does not
+pub ascii-other : (v : View) (passes : ℕ → Bool) (o b : ℕ) (t : Bool) → IsAsciiAhead v o × (slice_index v.units o ≡ b) → t ≡ passes b → not t ≡ true
+    → None ≡ passed passes ((input_of v).next Forward o)
+ascii-other v passes o b true (ahead, is) e other = absurd (cc other)
+ascii-other v passes o b false (ahead, is) e other = sym (ap (passed passes) ahead.next ∙ ap (λ t. if t then Some (suc o) else None) (ap passes is ∙ sym e))
+
 pub ascii-passed : (v : View) (passes : ℕ → Bool) (o : ℕ) → IsAsciiAhead v o → Some (suc o) ≡ passed passes ((input_of v).next Forward o) → passes (slice_index v.units o) ≡ true
 ascii-passed v passes o ahead e = by_test (passes (slice_index v.units o)) (e ∙ ap (passed passes) ahead.next)
   where
     by_test : (t : Bool) → Some (suc o) ≡ (if t then Some (suc o) else None) → t ≡ true
     by_test true f = refl
     by_test false f = absurd (cc f)
-
--- one more
-pub each-more : (P : ℕ → Type 0) (from at : ℕ) → ((k : ℕ) → from ≤ k → k < at → P k) → P at → (k : ℕ) → from ≤ k → k < at + 1 → P k
-each-more P from at each here k low less = by_order (cases_lt k at)
-  where
-    by_order : (k < at) ⊎ (at ≤ k) → P k
-    by_order (inl before) = each k low before
-    by_order (inr past) = let same : at ≡ k = omega (arith, past, less) in subst P same here
 
 -- bytes of a part are those that stand there
 module _ (text : List ℕ) (from to : ℕ) (room : to ≤ length text) where
@@ -56,9 +54,6 @@ module _ (text : List ℕ) (from to : ℕ) (room : to ≤ length text) where
 
 -- what no stop is passes where all but some characters do
 module _ (v : View) (stops : List ℕ) (passes : ℕ → Bool) (others : (c : ℕ) → passes c ≡ not (holds stops c)) where
-  pub other-passes : (o : ℕ) → IsAsciiAhead v o → holds stops (slice_index v.units o) ≡ false → Some (suc o) ≡ passed passes ((input_of v).next Forward o)
-  other-passes o ahead other = ascii-passes v passes o ahead (others (slice_index v.units o) ∙ ap not other)
-
   pub other-passed : (o : ℕ) → IsAsciiAhead v o → Some (suc o) ≡ passed passes ((input_of v).next Forward o) → holds stops (slice_index v.units o) ≡ false
   other-passed o ahead e = by_test (holds stops (slice_index v.units o)) (sym (others (slice_index v.units o)) ∙ ascii-passed v passes o ahead e)
     where
@@ -66,42 +61,16 @@ module _ (v : View) (stops : List ℕ) (passes : ℕ → Bool) (others : (c : �
       by_test false f = refl
       by_test true f = absurd (cc f)
 
--- so does each up to where one of these stands, where all are of ASCII
-module _ (v : View) (bytes : List ℕ) (same : bytes ≡ v.units) (stops : List ℕ) (o end far : ℕ)
-    (at : StopsAt stops (take end bytes) o far) (low : AreAscii (holds (take (far - o) (drop o bytes)))) where
-  pub stopped-ascii : (k : ℕ) → o ≤ k → k < far → IsAsciiAhead v k
-  stopped-ascii k from less =
-      let size = length-take end bytes in
-      let room = at.room in
-      let inside : k < length bytes = omega (arith, size, room, less) in
-      let small : slice_index bytes k < 0x80 = part-low bytes o far (omega (arith, size, room)) low k from less in
-      ascii-ahead v k (subst (λ (us : List ℕ). k < length us) same inside) (subst (λ (us : List ℕ). slice_index us k < 0x80) same small)
+-- each of a run of ASCII that passes is taken
+module _ (v : View) (units : List ℕ) (same : units ≡ v.units) (passes : ℕ → Bool) (o end far : ℕ) (room : end ≤ length units) (run : IsLowRun passes units o end far) where
+  pub run-ascii : (k : ℕ) → o ≤ k → k < far → IsAsciiAhead v k
+  run-ascii k from less =
+      let high = run.high in
+      let inside : k < length units = omega (arith, less, high, room) in
+      ascii-ahead v k (subst (λ (us : List ℕ). k < length us) same inside) (subst (λ (us : List ℕ). slice_index us k < 0x80) same (run.small k from less))
 
-  pub stopped-each : (passes : ℕ → Bool) → ((c : ℕ) → passes c ≡ not (holds stops c)) → (k : ℕ) → o ≤ k → k < far → Some (suc k) ≡ passed passes ((input_of v).next Forward k)
-  stopped-each passes others k from less =
-      let size = length-take end bytes in
-      let room = at.room in
-      let inside : k < end = omega (arith, size, room, less) in
-      let here : slice_index (take end bytes) k ≡ slice_index bytes k = get_or-take end bytes k 0 inside in
-      let other : holds stops (slice_index bytes k) ≡ false = ap (holds stops) (sym here) ∙ at.none k from less in
-      other-passes v stops passes others k (stopped-ascii k from less) (subst (λ (us : List ℕ). holds stops (slice_index us k) ≡ false) same other)
-
--- and each unit up to the next that is one of these or beyond ASCII
-module _ (v : View) (units : List ℕ) (same : units ≡ v.units) (stops : List ℕ) (o end far : ℕ) (room : far ≤ length (take end units))
-    (each : (k : ℕ) → o ≤ k → k < far → (slice_index (take end units) k < 0x80) × (holds stops (slice_index (take end units) k) ≡ false)) where
-  pub among-ascii : (k : ℕ) → o ≤ k → k < far → IsAsciiAhead v k
-  among-ascii k from less =
-      let size = length-take end units in
-      let here : slice_index (take end units) k ≡ slice_index units k = get_or-take end units k 0 (omega (arith, size, room, less)) in
-      let inside : k < length units = omega (arith, size, room, less) in
-      ascii-ahead v k (subst (λ (us : List ℕ). k < length us) same inside) (subst (λ (us : List ℕ). slice_index us k < 0x80) same (subst (λ n. n < 0x80) here (each k from less).0))
-
-  pub among-each : (passes : ℕ → Bool) → ((c : ℕ) → passes c ≡ not (holds stops c)) → (k : ℕ) → o ≤ k → k < far → Some (suc k) ≡ passed passes ((input_of v).next Forward k)
-  among-each passes others k from less =
-      let size = length-take end units in
-      let here : slice_index (take end units) k ≡ slice_index units k = get_or-take end units k 0 (omega (arith, size, room, less)) in
-      let other : holds stops (slice_index units k) ≡ false = ap (holds stops) (sym here) ∙ (each k from less).1 in
-      other-passes v stops passes others k (among-ascii k from less) (subst (λ (us : List ℕ). holds stops (slice_index us k) ≡ false) same other)
+  pub run-each : (k : ℕ) → o ≤ k → k < far → Some (suc k) ≡ passed passes ((input_of v).next Forward k)
+  run-each k from less = ascii-passes v passes k (run-ascii k from less) (subst (λ (us : List ℕ). passes (slice_index us k) ≡ true) same (run.each k from less))
 
 -- a byte that is no end of a line and not another is taken where any character of a line is
 module _ (b byte : ℕ) (low : b < 0x80) (other : holds (0x0A ∷ 0x0D ∷ byte ∷ []) b ≡ false) where

@@ -2,6 +2,7 @@
 use Rattle.std.specs.Prelude.{IfSome, slice_get, slice_index, slice_range, get_or, nat_lt, option_map, if◌then◌else◌}
 use Rattle.std.proofs.Common.{◌≡◌, ℕ, suc, ◌+◌, ◌<◌, Bool, true, false, not, ◌&&◌, ◌==◌, List, [], ◌∷◌, ◌++◌, length, drop, Option, Some, None, refl, sym, ap, ◌∙◌, subst, arith}
 use Rattle.std.specs.Option.{option_eq}
+use Rattle.std.proofs.Math.Seq.{drop-cons}
 use Rattle.std.proofs.lemmas.Bool.{eq-eqb, eqb-false}
 use Rattle.std.proofs.lemmas.Bool.Decides.{nat_tests}
 use Rattle.std.proofs.lemmas.List.{get_or-drop, length-drop}
@@ -13,7 +14,7 @@ use Rattle.regress_meaning.specs.Tokens.{is_high, is_low, joined}
 use Rattle.regress_meaning.specs.Inputs.{Input, onto_right, bytes_right, byte_at, pair_right}
 use Rattle.regress_meaning.specs.Steps.{literal}
 use Rattle.regress_engine_input.specs.Views.{View, Kind, utf8, ascii, utf16, ucs2, AreOfKind, are_bytes, input_of, input_of_kind, reading_of, in_bytes, unit_beside}
-use Rattle.regress_engine_input.proofs.Standing.{right-split}
+use Rattle.regress_engine_input.proofs.Standing.{right-split, split-right}
 use Rattle.regress_engine_matchers.proofs.ByteLemmas.{in-bytes}
 use Rattle.regress_engine_runs.specs.Meets.{IsAtPlace}
 use Rattle.regress_engine_search.proofs.PlaceLemmas.{next-place, units-are}
@@ -58,6 +59,11 @@ pub other-there : (v : View) (b : ℕ) (rest : List ℕ) (o : ℕ) → (slice_in
 other-there v b rest o other = other-first (input_of v) (b ∷ rest) o (omega arith)
     (λ there. eqb-false (slice_index v.units o) b other (get_or_from_slice_get v.units o b 0 (ap (λ us. slice_get us o) (sym (units-are v)) ∙ there)))
 
+-- nor where the byte that stands there is another
+pub other-stands : (v : View) (bs : List ℕ) (o b : ℕ) → 0 < length bs → slice_index v.units o ≡ b → (b == get_or bs 0 0) ≡ false → None ≡ literal (input_of v) Forward bs o
+other-stands v [] o b some is other = absurd (omega (arith, some))
+other-stands v (x ∷ rest) o b some is other = other-there v x rest o (ap (λ n. n == x) is ∙ other)
+
 -- a byte of ASCII is a character
 low-right : (b x y z : ℕ) → nat_lt b 0x80 ≡ true → bytes_right b x y z ≡ (b, 1)
 low-right b x y z e = rw e refl
@@ -80,6 +86,20 @@ unit-next utf8 table unicode units b o low here =
 unit-next ascii table unicode units b o low here = ap (option_map (λ c. (c, suc o))) here
 unit-next utf16 table unicode units b o low here = ap (option_map (λ u. pair_right o u (slice_get units (suc o)))) here ∙ ap Some (low-pair o b (slice_get units (suc o)) low)
 unit-next ucs2 table unicode units b o low here = ap (option_map (λ c. (c, suc o))) here
+
+-- where the text ends no character is ahead
+pub none-ahead : (kind : Kind) (table : Table) (unicode : Bool) (units : List ℕ) (o : ℕ) → slice_get units o ≡ None → (input_of_kind kind table unicode units).next Forward o ≡ None
+none-ahead utf8 table unicode units o none = ap (option_map _) none
+none-ahead ascii table unicode units o none = ap (option_map _) none
+none-ahead utf16 table unicode units o none = rw none refl
+none-ahead ucs2 table unicode units o none = rw none refl
+
+-- a byte that stands at an offset is taken there
+pub same-there : (input : Input) (bs : List ℕ) (o : ℕ) → length bs ≡ 1 → o < length input.units → slice_index input.units o ≡ get_or bs 0 0 → Some (o + 1) ≡ literal input Forward bs o
+same-there input [] o one inside same = absurd (omega (arith, one))
+same-there input (b ∷ c ∷ bs) o one inside same = absurd (omega (arith, one))
+same-there input (b ∷ []) o one inside same =
+    sym (ap (λ t. if t then Some (o + 1) else None) (split-right input.units o (b ∷ []) (drop (suc o) input.units) (drop-cons input.units o 0 inside ∙ ap (λ x. x ∷ drop (suc o) input.units) same)))
 
 -- So the first of bytes that stand there is, where it is one of ASCII.
 pub byte-next : (kind : Kind) (table : Table) (unicode : Bool) (units bs : List ℕ) (b o q : ℕ) → are_bytes kind ≡ true → b < 0x80

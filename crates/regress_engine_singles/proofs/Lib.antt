@@ -13,3 +13,4 @@ pub mod UnitStopLemmas
 pub mod DeadLemmas
 pub mod AsciiLemmas
 pub mod BoundaryLemmas
+pub mod RunLemmas

@@ -1,7 +1,7 @@
 -- Characters that pass a test, one by one.
 use Rattle.std.specs.Prelude.{MatchOption}
-use Rattle.std.proofs.Common.{◌≡◌, ℕ, zero, suc, ◌+◌, ◌-◌, ◌<◌, ◌≤◌, Bool, true, false, List, inl, inr, Option, Some, None, if◌then◌else◌, option_and_then, refl, sym, ap, ◌∙◌, subst, arith}
-use Rattle.regress_meaning.specs.Meaning.{Direction}
+use Rattle.std.proofs.Common.{◌≡◌, ℕ, zero, suc, ◌+◌, ◌-◌, ◌<◌, ◌≤◌, Bool, true, false, List, inl, inr, Option, Some, None, if◌then◌else◌, option_and_then, refl, sym, ap, ap₂, ◌∙◌, subst, arith}
+use Rattle.regress_meaning.specs.Meaning.{Direction, Forward}
 use Rattle.regress_meaning.specs.Inputs.{Input}
 use Rattle.regress_meaning.specs.Steps.{passed}
 use Rattle.regress_engine_input.specs.Views.{View, CanRead, AreOfKind, input_of}
@@ -120,15 +120,32 @@ after-reads v all passes dir (suc n) o q can e =
     by_found None h f on = absurd (cc f)
     by_found (Some r) h f on = on r h f
 
+-- what is left behind those that are one unit each leads where all lead, and may be read on
+module _ (v : View) (all : AreOfKind v.kind v.units) (passes : ℕ → Bool) where
+  far-each : (m n o : ℕ) → m ≤ n → ((k : ℕ) → o ≤ k → k < o + m → Some (suc k) ≡ passed passes ((input_of v).next Forward k))
+      → scan_while (input_of v) passes Forward (n - m) (o + m) ≡ scan_while (input_of v) passes Forward n o
+  far-each zero n o most each =
+      let none : n - 0 ≡ n = omega arith in let same : o + 0 ≡ o = omega arith in rw (none, same) refl
+  far-each (suc m) n o most each =
+      let left : n - suc m ≡ n - 1 - m = omega arith in
+      let past : o + suc m ≡ suc o + m = omega arith in
+      ap₂ (scan_while (input_of v) passes Forward) left past
+      ∙ far-each m (n - 1) (suc o) (omega (arith, most)) (λ k from less. each k (omega (arith, from)) (omega (arith, less)))
+      ∙ far-goes (input_of v) passes Forward n o (suc o) (omega (arith, most)) (each o (omega arith) (omega arith))
+
+  pub far-past : (n o q : ℕ) → CanRead v o → o ≤ q → q - o ≤ n → ((k : ℕ) → o ≤ k → k < q → Some (suc k) ≡ passed passes ((input_of v).next Forward k))
+      → (scan_while (input_of v) passes Forward (n - (q - o)) q ≡ scan_while (input_of v) passes Forward n o) × CanRead v q
+  far-past n o q can low most each =
+      let end : o + (q - o) ≡ q = omega (arith, low) in
+      let upto : (k : ℕ) → o ≤ k → k < o + (q - o) → Some (suc k) ≡ passed passes ((input_of v).next Forward k) = λ k from less. each k from (omega (arith, less, end)) in (
+        ap (scan_while (input_of v) passes Forward (n - (q - o))) (sym end) ∙ far-each (q - o) n o most upto,
+        after-reads v all passes Forward (q - o) o q can (after-each (input_of v) passes Forward (q - o) o upto ∙ ap Some end),
+      )
+
 -- a test of bytes under 0x80, and the list of those that pass
 pub by-members : (f : ℕ → Bool) → ((c : ℕ) → 0x80 ≤ c → f c ≡ false) → (found : Option (ℕ × ℕ)) → passed f found ≡ passed (holds (members f)) found
 by-members f low None = refl
 by-members f low (Some (c, o)) = ap (λ b. if b then Some o else None) (sym (holds-members f (λ d held. elim (cases_lt d 256) [ inl small ↦ small | inr large ↦ absurd (cc (sym held ∙ low d (omega (arith, large)))) ]) c))
-
--- tests that answer alike let the same pass
-pub passed-alike : (f h : ℕ → Bool) → ((c : ℕ) → f c ≡ h c) → (found : Option (ℕ × ℕ)) → passed h found ≡ passed f found
-passed-alike f h same None = refl
-passed-alike f h same (Some (c, o)) = ap (λ b. if b then Some o else None) (sym (same c))
 
 -- An instruction that takes what passes a test goes as far as the test passes.
 module _ (program : Program) (input : Input) (passes : ℕ → Bool) (i : Instruction) (dir : Direction) (groups : List Marks)

@@ -20,25 +20,17 @@ use Rattle.regress_front_nodes.specs.TreeMeaning.{bracket_has}
 use Rattle.regress_meaning.specs.TableParts.{in_intervals}
 use Rattle.std.proofs.lemmas.List.{get_or-drop}
 use Rattle.regress_engine_singles.specs.Passing.{scan_while, StopsAt}
+use Rattle.regress_engine_singles.proofs.ByteLemmas.{none-ahead}
 
 module _ (v : View) (all : AreOfKind v.kind v.units) (are : are_bytes v.kind ≡ true) (stops : List ℕ) (low : (c : ℕ) → 0x80 ≤ c → holds stops c ≡ false)
     (passes : ℕ → Bool) (others : (c : ℕ) → passes c ≡ not (holds stops c)) where
-  -- the character ahead of an offset, where the text goes on and where it ends
+  -- the character ahead of an offset, where the text goes on
   some-next : (o b : ℕ) → slice_get v.units o ≡ Some b → (x : ℕ × ℕ) × ((input_of v).next Forward o ≡ Some x)
   some-next o b e = by_kind v.kind are
     where
       by_kind : (kind : Kind) → are_bytes kind ≡ true → (x : ℕ × ℕ) × ((input_of_kind kind v.table v.unicode v.units).next Forward o ≡ Some x)
       by_kind utf8 bytes = (_, ap (option_map _) e)
       by_kind ascii bytes = (_, ap (option_map _) e)
-      by_kind utf16 bytes = absurd (cc bytes)
-      by_kind ucs2 bytes = absurd (cc bytes)
-
-  none-next : (o : ℕ) → slice_get v.units o ≡ None → (input_of v).next Forward o ≡ None
-  none-next o e = by_kind v.kind are
-    where
-      by_kind : (kind : Kind) → are_bytes kind ≡ true → (input_of_kind kind v.table v.unicode v.units).next Forward o ≡ None
-      by_kind utf8 bytes = ap (option_map _) e
-      by_kind ascii bytes = ap (option_map _) e
       by_kind utf16 bytes = absurd (cc bytes)
       by_kind ucs2 bytes = absurd (cc bytes)
 
@@ -114,7 +106,7 @@ module _ (v : View) (all : AreOfKind v.kind v.units) (are : are_bytes v.kind ≡
                 ap goes (tested true c q next stop) ∙ same
             by_end (inr past) same =
                 let none : slice_get v.units o ≡ None = slice_get_past v.units o (omega (arith, past, same)) in
-                ap (λ x. goes (passed passes x)) (none-next o none) ∙ same
+                ap (λ x. goes (passed passes x)) (none-ahead v.kind v.table v.unicode v.units o none) ∙ same
 
 -- what is shown as bytes are those of the text
 pub bytes-shown : (v : View) (bytes : List ℕ) → in_bytes v.kind (Some v.units) ≡ Some bytes → (are_bytes v.kind ≡ true) × (bytes ≡ v.units)

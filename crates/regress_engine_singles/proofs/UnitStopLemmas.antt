@@ -13,7 +13,7 @@ use Rattle.regress_meaning.specs.Table.{Table}
 use Rattle.regress_engine_input.specs.Views.{View, Kind, utf8, ascii, utf16, ucs2, are_bytes, in_units, input_of, input_of_kind}
 use Rattle.regress_engine_scanning.specs.Units.{IsNextUnit}
 use Rattle.regress_engine_singles.specs.Passing.{scan_while, StopsAt}
-use Rattle.regress_engine_singles.proofs.ByteLemmas.{unit-next}
+use Rattle.regress_engine_singles.proofs.ByteLemmas.{unit-next, none-ahead}
 
 -- what is shown as units are those of the text
 pub units-shown : (v : View) (units : List ℕ) → in_units v.kind (Some v.units) ≡ Some units → (are_bytes v.kind ≡ false) × (units ≡ v.units)
@@ -26,11 +26,11 @@ units-shown v units e = by_bytes (are_bytes v.kind) refl
         (f, sym (ap (λ (x : Option (List ℕ)). elim x [ None ↦ v.units | Some y ↦ y ]) some))
 
 -- A unit is a character alone, or the first half of one beyond ASCII, whose second half is no unit of ASCII.
-abbrev IsRead : List ℕ → Option (ℕ × ℕ) → (o u : ℕ) → Type 0
+abbrev pub IsRead : List ℕ → Option (ℕ × ℕ) → (o u : ℕ) → Type 0
 IsRead units next o u = (next ≡ Some (u, suc o))
     ⊎ ((w c : ℕ) × (slice_get units (suc o) ≡ Some w) × (0x80 ≤ w) × (0x80 ≤ c) × (next ≡ Some (c, suc (suc o))))
 
-unit-read : (kind : Kind) (table : Table) (unicode : Bool) (units : List ℕ) → are_bytes kind ≡ false → (o u : ℕ) → slice_get units o ≡ Some u
+pub unit-read : (kind : Kind) (table : Table) (unicode : Bool) (units : List ℕ) → are_bytes kind ≡ false → (o u : ℕ) → slice_get units o ≡ Some u
     → IsRead units ((input_of_kind kind table unicode units).next Forward o) o u
 unit-read utf8 table unicode units are o u here = absurd (cc are)
 unit-read ascii table unicode units are o u here = absurd (cc are)
@@ -51,13 +51,6 @@ unit-read utf16 table unicode units are o u here = by_next (slice_get units (suc
         by_pair : (t : Bool) → (is_high u && is_low w) ≡ t → IsRead units (option_map (λ x. pair_right o x (slice_get units (suc o))) (slice_get units o)) o u
         by_pair true f = inr (w, joined u w, e, grind (arith, nat_tests), grind (arith, nat_tests), next (Some w) e ∙ ap Some (is true f))
         by_pair false f = inl (next (Some w) e ∙ ap Some (is false f))
-
-none-read : (kind : Kind) (table : Table) (unicode : Bool) (units : List ℕ) → are_bytes kind ≡ false → (o : ℕ) → slice_get units o ≡ None
-    → (input_of_kind kind table unicode units).next Forward o ≡ None
-none-read utf8 table unicode units are o none = absurd (cc are)
-none-read ascii table unicode units are o none = absurd (cc are)
-none-read utf16 table unicode units are o none = rw none refl
-none-read ucs2 table unicode units are o none = rw none refl
 
 module _ (v : View) (are : are_bytes v.kind ≡ false) (stops : List ℕ) (low : (c : ℕ) → 0x80 ≤ c → holds stops c ≡ false)
     (passes : ℕ → Bool) (others : (c : ℕ) → passes c ≡ not (holds stops c)) (start end : ℕ) (at : StopsAt stops v.units start end) where
@@ -116,7 +109,7 @@ module _ (v : View) (are : are_bytes v.kind ≡ false) (stops : List ℕ) (low :
               ap goes (tested true u (suc o) (unit-next v.kind v.table v.unicode v.units u o small here) held) ∙ same
           by_end (inr past) =
               let none : slice_get v.units o ≡ None = slice_get_past v.units o (omega (arith, past, same)) in
-              ap (λ x. goes (passed passes x)) (none-read v.kind v.table v.unicode v.units are o none) ∙ same
+              ap (λ x. goes (passed passes x)) (none-ahead v.kind v.table v.unicode v.units o none) ∙ same
 
 -- ---- the next stop
 

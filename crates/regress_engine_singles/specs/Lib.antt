@@ -4,3 +4,4 @@ pub mod Leads
 pub mod Passed
 pub mod Passing
 pub mod Taking
+pub mod Counted

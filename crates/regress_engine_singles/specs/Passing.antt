@@ -4,6 +4,9 @@ use Rattle.regress_meaning.specs.Meaning.{Direction, Forward}
 use Rattle.regress_meaning.specs.Inputs.{Input}
 use Rattle.regress_meaning.specs.Steps.{passed}
 use Rattle.regress_meaning.specs.Text.{holds}
+use Rattle.regress_front_sets.specs.Intervals.{ends_of}
+use Rattle.regress_front_nodes.specs.TreeMeaning.{bracket_has}
+use Rattle.regress_front_nodes.specs.declared.node.BracketContents.{BracketContents}
 use Rattle.regress_engine_input.specs.Views.{View, input_of}
 
 module _ (input : Input) (passes : ℕ → Bool) (dir : Direction) where
@@ -41,3 +44,14 @@ pub record StopsAt (stops bytes : List ℕ) (o end : ℕ) : Type 0 where
 pub record IsAsciiAhead (v : View) (o : ℕ) : Type 0 where
   pub low : slice_index v.units o < 0x80
   pub next : (input_of v).next Forward o ≡ Some (slice_index v.units o, suc o)
+
+-- From an offset on, up to another and before an end, all that stands is ASCII and passes a test.
+pub record IsLowRun (passes : ℕ → Bool) (units : List ℕ) (o end far : ℕ) : Type 0 where
+  pub low : o ≤ far
+  pub high : far ≤ end
+  pub small : (k : ℕ) → o ≤ k → k < far → slice_index units k < 0x80
+  pub each : (k : ℕ) → o ≤ k → k < far → passes (slice_index units k) ≡ true
+
+-- a class matches a character
+abbrev pub class_has : BracketContents → ℕ → Bool
+class_has class = bracket_has class.invert (ends_of class.cps.intervals.items)

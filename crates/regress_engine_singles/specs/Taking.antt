@@ -1,5 +1,5 @@
 -- What an instruction takes: bytes, a character, or nothing.
-use Rattle.std.specs.Prelude.{Bool, true, false}
+use Rattle.std.specs.Prelude.{◌≡◌, ◌<◌, ◌⊎◌, ℕ, ◌∷◌, Bool, List, true, false}
 use Rattle.regress_engine_insn.specs.Instructions.{Instruction}
 use Rattle.regress_engine_insn.specs.Instructions as code
 use Rattle.regress_engine_runs.specs.Closed.{takes_character}
@@ -27,3 +27,7 @@ takes_some i = is_taking i
 abbrev pub takes_one : Instruction → Bool
 takes_one (code.byte_set cs) = true
 takes_one i = is_class i
+
+-- all that an instruction takes begins with a byte, or is this character of ASCII alone
+abbrev pub IsFirstAlone : Instruction → ℕ → Type 0
+IsFirstAlone i b = ((rest : List ℕ) × (i ≡ code.byte_seq (b ∷ rest))) ⊎ ((b < 0x80) × (i ≡ code.char b))

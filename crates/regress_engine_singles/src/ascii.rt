@@ -3,17 +3,17 @@ ghost use Rattle.std.specs.Prelude.{◌≡◌, ℕ, suc, ◌-◌, ◌<◌, ◌�
 ghost use Rattle.regress_meaning.specs.Meaning.{Forward as ahead};
 ghost use Rattle.regress_meaning.specs.Steps.{passed};
 ghost use Rattle.regress_meaning.specs.Text.{holds};
-ghost use Rattle.regress_engine_input.specs.Views.{in_units, input_of, CanRead};
+ghost use Rattle.regress_front_bytes.specs.Bitmaps.{ascii_bitmap_contains};
+ghost use Rattle.regress_engine_input.specs.Views.{input_of, CanRead};
 ghost use Rattle.regress_engine_singles.specs.Passing.{IsAsciiAhead};
 
-use crate::class::ScannedBracket;
-use crate::stops::next_stop;
-use crate::unit_stops::next_other;
+use crate::class::ToldBracket;
+use crate::runs::{end_of, end_of_units};
+use crate::stops::all_but;
 use regress_engine_input::cursor::next;
 use regress_engine_input::{Direction, ElementType, Forward, InputIndexer, PositionType};
 use regress_engine_matchers::{MatchByteSet, SingleCharMatcher};
-use regress_engine_scanning::are_ascii;
-use regress_front_bytes::ByteSet;
+use regress_front_bytes::{AsciiBitmap, ByteSet};
 
 /// A test on the character ahead, which also tests numbers under 0x100.
 pub(crate) trait ByteMatcher<Input: InputIndexer>: SingleCharMatcher<Input, Forward> {
@@ -28,19 +28,42 @@ pub(crate) trait ByteMatcher<Input: InputIndexer>: SingleCharMatcher<Input, Forw
     {
         None
     }
+
+    /// The characters of ASCII that pass, where these are held as a set.
+    #[inline(always)]
+    fn passing(&self) -> Option<&AsciiBitmap>
+        ensures { IfSome result (λ set. (c : ℕ) → c < 0x80 → Self.passes self.now c ≡ ascii_bitmap_contains set.now c) }
+    {
+        None
+    }
 }
 
-impl<Input: InputIndexer, Bytes: ByteSet> ByteMatcher<Input> for MatchByteSet<'_, Bytes> {
+impl<Input: InputIndexer> ByteMatcher<Input> for MatchByteSet<'_, AsciiBitmap> {
     #[inline]
     fn has_byte(&self, byte: u8) -> bool {
         self.bytes.contains(byte)
     }
+
+    #[inline(always)]
+    fn passing(&self) -> Option<&AsciiBitmap> {
+        Some(self.bytes)
+    }
 }
 
-impl<Input: InputIndexer> ByteMatcher<Input> for ScannedBracket<'_> {
+impl<Input: InputIndexer> ByteMatcher<Input> for ToldBracket<'_> {
     #[inline]
     fn has_byte(&self, byte: u8) -> bool {
         self.has(u32::from(byte))
+    }
+
+    #[inline(always)]
+    fn stopped_by(&self) -> Option<[u8; 3]> {
+        all_but(self.bc)
+    }
+
+    #[inline(always)]
+    fn passing(&self) -> Option<&AsciiBitmap> {
+        Some(self.ascii)
     }
 }
 
@@ -88,37 +111,6 @@ impl<Input: InputIndexer> ByteMatcher<Input> for AllBut {
     }
 }
 
-/// The same as `ascii_end` over units.
-#[inline(always)]
-fn ascii_end_among<Input: InputIndexer, Matcher: ByteMatcher<Input>>(
-    input: &Input,
-    matcher: &Matcher,
-    units: &[u16],
-    most: usize,
-    offset: usize,
-) -> usize
-    requires shown { in_units (Input.view input.now).kind (Some (Input.view input.now).units) ≡ Some units.now }
-    requires inside { offset ≤ length units.now }
-    ensures low { offset ≤ result }
-    ensures high { result - offset ≤ most }
-    ensures each { (k : ℕ) → offset ≤ k → k < result → Some (suc k) ≡ passed (Matcher.passes matcher.now) ((input_of (Input.view input.now)).next ahead k) }
-    ensures ascii { (k : ℕ) → offset ≤ k → k < result → IsAsciiAhead (Input.view input.now) k }
-{
-    let end = offset + most.min(units.len() - offset);
-    if let Some(stops) = matcher.stopped_by() {
-        return next_other(stops, &units[..end], offset);
-    }
-    let mut at = offset;
-    while at < end {
-        let unit = units[at];
-        if unit >= 0x80 || !matcher.has_byte(unit as u8) {
-            break;
-        }
-        at += 1;
-    }
-    at
-}
-
 /// The offset behind as many characters of ASCII ahead of one as pass one after another, at most so many.
 #[inline(always)]
 pub(crate) fn ascii_end<Input: InputIndexer, Matcher: ByteMatcher<Input>>(
@@ -133,30 +125,25 @@ pub(crate) fn ascii_end<Input: InputIndexer, Matcher: ByteMatcher<Input>>(
     ensures each { (k : ℕ) → offset ≤ k → k < result → Some (suc k) ≡ passed (Matcher.passes matcher.now) ((input_of (Input.view input.now)).next ahead k) }
     ensures ascii { (k : ℕ) → offset ≤ k → k < result → IsAsciiAhead (Input.view input.now) k }
 {
-    let Some(text) = input.bytes() else {
-        return match input.units() {
-            Some(units) if offset <= units.len() => {
-                ascii_end_among(input, matcher, units, most, offset)
-            }
-            _ => offset,
-        };
-    };
-    let end = offset + most.min(text.len() - offset);
-    if let Some(stops) = matcher.stopped_by() {
-        let far = next_stop(stops, &text[..end], offset);
-        if are_ascii(&text[offset..far]) {
-            return far;
-        }
+    if let Some(text) = input.bytes() {
+        return end_of(
+            matcher,
+            text,
+            offset,
+            offset + most.min(text.len() - offset),
+        );
     }
-    let mut at = offset;
-    while at < end {
-        let byte = text[at];
-        if byte >= 0x80 || !matcher.has_byte(byte) {
-            break;
+    match input.units() {
+        Some(units) if offset <= units.len() => {
+            end_of_units(
+                matcher,
+                units,
+                offset,
+                offset + most.min(units.len() - offset),
+            )
         }
-        at += 1;
+        _ => offset,
     }
-    at
 }
 
 /// The character of ASCII ahead of an offset, and the offset behind it, where one stands there in bytes.

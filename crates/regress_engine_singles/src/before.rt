@@ -6,6 +6,7 @@ ghost use Rattle.regress_engine_insn.specs.Instructions.{Program};
 ghost use Rattle.regress_engine_insn.specs.InsnViews.{instruction};
 ghost use Rattle.regress_engine_runs.specs.States.{Marks};
 ghost use Rattle.regress_engine_runs.specs.Runs.{advance};
+ghost use Rattle.regress_engine_singles.specs.Passing.{IsAsciiAhead};
 
 use crate::ascii::{AllBut, ascii_end};
 use regress_engine_input::InputIndexer;
@@ -32,6 +33,7 @@ pub fn taken_before<Input: InputIndexer>(
     ensures each { (program : Program) (groups : List Marks) (k : ℕ) → offset ≤ k → k < result
         → Some (suc k) ≡ advance program (input_of (Input.view input.now)) (instruction insn.now) ahead groups k }
     ensures other { (k : ℕ) → offset ≤ k → k < result → (slice_index (Input.view input.now).units k == byte) ≡ false }
+    ensures ascii { (k : ℕ) → offset ≤ k → k < result → IsAsciiAhead (Input.view input.now) k }
 {
     match insn {
         Insn::MatchAnyExceptLineTerminator => {

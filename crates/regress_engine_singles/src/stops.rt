@@ -1,5 +1,5 @@
 //! Classes of all characters but a few of ASCII.
-ghost use Rattle.std.specs.Prelude.{◌≡◌, ◌==◌, ◌≤◌, ◌<◌, ℕ, false, not, length, IfSome};
+ghost use Rattle.std.specs.Prelude.{◌≡◌, ◌==◌, ◌≤◌, ◌<◌, ℕ, true, false, not, length, IfSome};
 ghost use Rattle.regress_meaning.specs.Meaning.{Forward as ahead};
 ghost use Rattle.regress_meaning.specs.Text.{holds};
 ghost use Rattle.regress_front_sets.specs.Intervals.{ends_of, in_interval};
@@ -24,14 +24,12 @@ fn alone(interval: Interval) -> Option<u8>
     Some(interval.first as u8)
 }
 
-/// The characters of ASCII that a class does not match, where it matches all but one to three of these.
-pub(crate) fn all_but(class: &BracketContents) -> Option<[u8; 3]>
+/// The characters of ASCII that an inverted class does not match, where it matches all but one to three of these.
+fn stops_of(class: &BracketContents) -> Option<[u8; 3]>
+    requires { class.now.invert ≡ true }
     ensures others { IfSome result (λ stops. (c : ℕ) → bracket_has class.now.invert (ends_of class.now.cps.intervals.items) c ≡ not (holds stops c)) }
     ensures ascii { IfSome result (λ stops. (c : ℕ) → 0x80 ≤ c → holds stops c ≡ false) }
 {
-    if !class.invert {
-        return None;
-    }
     match class.cps.intervals() {
         [one] => {
             let first = alone(*one)?;
@@ -50,6 +48,18 @@ pub(crate) fn all_but(class: &BracketContents) -> Option<[u8; 3]>
         }
         _ => None,
     }
+}
+
+/// The characters of ASCII that a class does not match, where it matches all but one to three of these.
+#[inline(always)]
+pub(crate) fn all_but(class: &BracketContents) -> Option<[u8; 3]>
+    ensures others { IfSome result (λ stops. (c : ℕ) → bracket_has class.now.invert (ends_of class.now.cps.intervals.items) c ≡ not (holds stops c)) }
+    ensures ascii { IfSome result (λ stops. (c : ℕ) → 0x80 ≤ c → holds stops c ≡ false) }
+{
+    if !class.invert {
+        return None;
+    }
+    stops_of(class)
 }
 
 /// The least offset from one on at which one of three bytes stands, or that of the end.

@@ -10,10 +10,10 @@ ghost use Rattle.regress_engine_runs.specs.Runs.{advance, after_times};
 ghost use Rattle.regress_engine_runs.specs.Closed.{Fits};
 ghost use Rattle.regress_engine_analysis.specs.Planned.{is_class};
 ghost use Rattle.regress_engine_singles.specs.Passing.{after, IsBegun, IsTaken};
+ghost use Rattle.regress_engine_singles.specs.Counted.{AreTaken};
 
-use crate::ascii::{AllBut, ByteMatcher, ascii_end, passed_ahead};
-use crate::class::ScannedBracket;
-use crate::stops::all_but;
+use crate::ascii::{ByteMatcher, ascii_end, passed_ahead};
+use crate::class::ToldBracket;
 use regress_engine_code::CompiledRegex;
 use regress_engine_input::InputIndexer;
 use regress_engine_insn::Insn;
@@ -92,6 +92,21 @@ fn taken_beside<Input: InputIndexer, Matcher: ByteMatcher<Input>>(
     })
 }
 
+/// The same, apart, so that other classes make no room for it.
+#[inline(never)]
+fn taken_told<Input: InputIndexer, Matcher: ByteMatcher<Input>>(
+    input: &Input,
+    matcher: &Matcher,
+    more: usize,
+    offset: usize,
+) -> Option<Taken>
+    requires place { CanRead (Input.view input.now) offset }
+    requires suits { Matcher.Suits matcher.now (Input.view input.now) }
+    ensures { AreTaken (input_of (Input.view input.now)) (Matcher.passes matcher.now) more offset result }
+{
+    taken_beside(input, matcher, more, offset)
+}
+
 /// The characters ahead of an offset that a class takes one after another, the first and at most so many more; `None` where it
 /// does not take the first.
 ///
@@ -116,14 +131,11 @@ pub fn taken_ahead<Input: CharInput>(
         Insn::AsciiBracket(bitmap) => {
             ascii_bitmap_holds_ascii(bitmap);
             let set = MatchByteSet { bytes: bitmap };
-            taken_beside(input, &set, more, offset)
+            taken_told(input, &set, more, offset)
         }
         Insn::Bracket(index) => {
-            let bc = &program.brackets()[*index];
-            match all_but(bc) {
-                Some(stops) => taken_beside(input, &AllBut { stops }, more, offset),
-                None => taken_beside(input, &ScannedBracket { bc }, more, offset),
-            }
+            let class = ToldBracket::of(program, *index);
+            taken_beside(input, &class, more, offset)
         }
         _ => None,
     }

@@ -3,7 +3,7 @@ ghost use Rattle.std.specs.Prelude.{◌≡◌, ℕ, true, List, ◌∷◌, slice
 ghost use Rattle.regress_engine_insn.specs.Instructions.{byte_seq, bytes_in};
 ghost use Rattle.regress_engine_insn.specs.InsnViews.{instruction};
 ghost use Rattle.regress_engine_analysis.specs.Planned.{is_class};
-ghost use Rattle.regress_engine_singles.specs.Taking.{is_assertion, is_taking, takes_one, takes_some};
+ghost use Rattle.regress_engine_singles.specs.Taking.{IsFirstAlone, is_assertion, is_taking, takes_one, takes_some};
 
 use regress_engine_analysis::is_class;
 use regress_engine_insn::{Insn, bytes_of};
@@ -28,6 +28,22 @@ pub fn first_byte(insn: &Insn) -> Option<u8>
     ensures some { IfSome result (λ b. (rest : List ℕ) × (instruction insn.now ≡ byte_seq (b ∷ rest))) }
 {
     first_of(bytes_of(insn))
+}
+
+/// The character of ASCII, or byte, with which all begins that an instruction takes, where that is known: the first of its bytes, or
+/// its one character.
+///
+/// ```rust
+/// let first = first_alone(&Insn::Char(0x61)); // Some(b'a')
+/// ```
+#[inline]
+pub fn first_alone(insn: &Insn) -> Option<u8>
+    ensures { IfSome result (IsFirstAlone (instruction insn.now)) }
+{
+    match insn {
+        Insn::Char(c) if *c < 0x80 => Some(*c as u8),
+        _ => first_byte(insn),
+    }
 }
 
 /// Whether an instruction asks what stands beside an offset, and takes nothing, as `^` does.

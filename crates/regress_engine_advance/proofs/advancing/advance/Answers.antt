@@ -24,8 +24,8 @@ pub byte_set-requires-in-ByteSet4 : goal.byte_set-requires-in-ByteSet4
 byte_set-requires-in-ByteSet4 g c =
     ready_read _ (g.Input.InputIndexer.view c.args.input.now) (g.met.Input.InputIndexer.are_of_kind c.args.input.now) _ _ _ c.requires.ready (rw c.in-ByteSet4.is refl)
 
-pub ascii_bracket-requires : goal.ascii_bracket-requires
-ascii_bracket-requires g c =
+pub ascii_member-requires : goal.ascii_member-requires
+ascii_member-requires g c =
     ready_read _ (g.Input.InputIndexer.view c.args.input.now) (g.met.Input.InputIndexer.are_of_kind c.args.input.now) _ _ _ c.requires.ready (rw c.in-AsciiBracket.is refl)
 
 pub bracket-requires : goal.bracket-requires
@@ -36,8 +36,8 @@ pub any-requires : goal.any-requires
 any-requires g c =
     ready_read _ (g.Input.InputIndexer.view c.args.input.now) (g.met.Input.InputIndexer.are_of_kind c.args.input.now) _ _ _ c.requires.ready (rw c.in-MatchAny.is refl)
 
-pub any_in_line-requires : goal.any_in_line-requires
-any_in_line-requires g c =
+pub in_line-requires : goal.in_line-requires
+in_line-requires g c =
     ready_read _ (g.Input.InputIndexer.view c.args.input.now) (g.met.Input.InputIndexer.are_of_kind c.args.input.now) _ _ _ c.requires.ready (rw c.in-MatchAnyExceptLineTerminator.is refl)
 
 pub line_edge-requires : goal.line_edge-requires
@@ -58,6 +58,5 @@ boundary-requires-in-WordBoundaryUnicodeICase g c =
 
 pub returns-in-Bracket : goal.returns-in-Bracket
 returns-in-Bracket g c =
-    let here = rw c.brackets.ensures at c.index-brackets-index.is in
     let within = rw c.in-Bracket.is at c.requires.ready.fits in
-    rw c.in-Bracket.is (c.bracket.ensures ∙ bracket_takes ((input_of (g.Input.InputIndexer.view c.args.input.now)).next (direction_of c.args.forward) c.args.offset) _ _ _ within here)
+    rw c.in-Bracket.is (c.bracket.ensures ∙ bracket_takes ((input_of (g.Input.InputIndexer.view c.args.input.now)).next (direction_of c.args.forward) c.args.offset) _ _ _ within c.of.ensures)

@@ -1,8 +1,14 @@
 use Rattle.std.proofs.Common.{refl}
 use Rattle.regress_meaning.specs.Meaning.{Forward}
 use Rattle.regress_engine_input.specs.Views.{input_of}
-use Rattle.regress_engine_singles.proofs.PassingLemmas.{far-led, far-stopped, far-ended, reads-on}
+use Rattle.regress_engine_singles.proofs.PassingLemmas.{far-past, far-led, far-stopped, far-ended, reads-on}
 use Rattle.regress_engine_singles.proofs.ahead.as_far_beside.Goals as goal
+
+pub loop-left-init : goal.loop-left-init
+loop-left-init g c =
+    let behind = c.ascii_end-behind.ensures in
+    let (rest, place) = far-past (g.Input.InputIndexer.view c.args.input.now) (g.met.Input.InputIndexer.are_of_kind c.args.input.now) (g.Matcher.SingleCharMatcher.passes c.args.matcher.now) c.args.times c.args.offset c.ascii_end-behind.result c.requires.place behind.low behind.high behind.each in
+    record { rest = rest; place = place }
 
 pub loop-left-preserved : goal.loop-left-preserved
 loop-left-preserved g c =

@@ -5,7 +5,7 @@ use Rattle.regress_engine_input.specs.Views.{direction_of, input_of, reading_of}
 use Rattle.regress_engine_runs.specs.Runs.{as_far}
 use Rattle.regress_engine_runs.specs.Meets.{IsAtPlace}
 use Rattle.regress_engine_search.specs.StateViews.{marks_of}
-use Rattle.regress_engine_advance.proofs.times.as_far.Given as goal
+use Rattle.regress_engine_advance.proofs.times.as_far_slowly.Given as goal
 
 -- what is left leads where all lead
 abbrev pub invariant-loop-left : goal.invariant-loop-left
