@@ -19,7 +19,7 @@ use regress_engine_code::CompiledRegex;
 use regress_engine_input::InputIndexer;
 use regress_engine_insn::Insn;
 use regress_engine_matchers::CharInput;
-use regress_engine_singles::is_assertion;
+use regress_engine_singles::{ToldBracket, is_assertion};
 
 /// The offset behind the character ahead of one, where a class matches that.
 #[inline(always)]
@@ -36,7 +36,7 @@ pub(crate) fn class_ahead<Input: CharInput>(
 {
     match insn {
         Insn::AsciiBracket(bitmap) => ascii_bracket(input, true, offset, bitmap),
-        Insn::Bracket(index) => { bracket(input, true, offset, &program.brackets()[*index]) }
+        Insn::Bracket(index) => { bracket(input, true, offset, &ToldBracket::of(program, *index)) }
         _ => None,
     }
 }

@@ -1,17 +1,20 @@
 //! What a program begins with: a class and a run of characters, or what is asked of the place.
 ghost use Rattle.std.specs.Prelude.{◌≡◌, ◌<◌, ℕ, true, false, IfSome};
+ghost use Rattle.regress_meaning.specs.Meaning.{Forward as ahead};
 ghost use Rattle.regress_engine_insn.specs.Instructions.{Program, Stands, boundary, line_start};
+ghost use Rattle.regress_engine_insn.specs.InsnViews.{instruction};
 ghost use Rattle.regress_engine_code.specs.Standing.{program_of};
-ghost use Rattle.regress_engine_input.specs.Views.{View, are_bytes, reading_of};
+ghost use Rattle.regress_engine_input.specs.Views.{View, are_bytes, input_of, reading_of};
 ghost use Rattle.regress_engine_runs.specs.Meets.{IsAtPlace};
 ghost use Rattle.regress_engine_search.specs.Search.{Suits};
 ghost use Rattle.regress_engine_search.specs.Skipping.{Reaches};
+ghost use Rattle.regress_engine_singles.specs.Failing.{IsDead};
 ghost use Rattle.regress_engine_singles.specs.Passed.{PassesOver};
 ghost use Rattle.regress_engine_leading.specs.Known.{BeginsAt, IsKnown};
 
 use crate::failing::{class_ahead, fails};
 use regress_engine_advance::{
-    ascii_boundary, beside, boundary, is_dead, is_dead_ahead, is_word, word_beside,
+    ascii_boundary, beside, boundary, holds_at, is_dead, is_dead_ahead, is_word, word_beside,
 };
 use regress_engine_analysis::is_class;
 use regress_engine_code::CompiledRegex;
@@ -181,8 +184,8 @@ fn at_plain_word<Input: CharInput>(
     at_word(program, input, start, false)
 }
 
-/// How far from the start on no line begins, where the program asks for that first; `None` where one begins there, and
-/// something may be led to.
+/// The offset behind the line end ahead of the start, or that of the text's end: up to there no line begins, and so no run has an answer
+/// where the program asks for that first, and none has one from the start.
 #[inline(never)]
 fn passed_line<Input: CharInput>(
     program: &CompiledRegex,
@@ -192,11 +195,9 @@ fn passed_line<Input: CharInput>(
     requires suits { Suits (program_of program.now) (Input.view input.now) }
     requires place { IsAtPlace (reading_of (Input.view input.now)) start }
     requires first { Stands (program_of program.now) 0 (line_start true) }
+    requires dead { IsDead (program_of program.now) (input_of (Input.view input.now)) ahead 0 start }
     ensures { IfSome result (PassesOver (program_of program.now) (Input.view input.now) start) }
 {
-    if !fails(program, input, LOOKED_AT, 0, start) {
-        return None;
-    }
     let mut at = start;
     'places: loop {
         let Some((c, behind)) = beside(input, true, at) else {
@@ -207,6 +208,30 @@ fn passed_line<Input: CharInput>(
         }
         at = behind;
     }
+}
+
+/// What is known of the start where the program asks first whether a line begins: where one does, and something may be led to, the run
+/// is behind that at once, and else no run has an answer up to where the next one does. It is apart, so that no search makes room for it.
+#[inline(never)]
+fn at_line<Input: CharInput>(
+    program: &CompiledRegex,
+    input: &Input,
+    insn: &Insn,
+    start: usize,
+) -> Beginning
+    requires suits { Suits (program_of program.now) (Input.view input.now) }
+    requires place { IsAtPlace (reading_of (Input.view input.now)) start }
+    requires first { Stands (program_of program.now) 0 (line_start true) }
+    requires insn { instruction insn.now ≡ line_start true }
+    ensures { IsKnown (program_of program.now) (Input.view input.now) start result }
+{
+    if !holds_at(input, insn, start) {
+        return Beginning::of(passed_line(program, input, start));
+    }
+    if fails(program, input, LOOKED_AT, 1, start) {
+        return Beginning::of(passed_line(program, input, start));
+    }
+    Beginning::At(1)
 }
 
 /// The offset behind the characters of ASCII ahead of one with which no match may begin, one after another.
@@ -352,7 +377,7 @@ pub fn known_at<Input: CharInput>(program: &CompiledRegex, input: &Input, start:
         Insn::BeginCaptureGroup(_) => Beginning::of(passed_from(program, input, start, 1)),
         Insn::WordBoundary { invert: false } => at_plain_word(program, input, start),
         Insn::WordBoundaryUnicodeICase { invert: false } => at_word(program, input, start, true),
-        Insn::StartOfLine { multiline: true } => Beginning::of(passed_line(program, input, start)),
+        Insn::StartOfLine { multiline: true } => at_line(program, input, &insns[0], start),
         insn => {
             if is_assertion(insn) {
                 return Beginning::of(passed_one(program, input, start));

@@ -8,7 +8,7 @@ use Rattle.regress_engine_leading.proofs.leading.passed_line.Goals as goal
 pub places-init : goal.places-init
 places-init g c =
     in-line-here (g.Input.InputIndexer.view c.args.input.now) (g.met.Input.InputIndexer.are_of_kind c.args.input.now) (program_of c.args.program.now) c.args.start
-    c.requires.place (c.fails.ensures c.if-not-fails.false)
+    c.requires.place c.requires.dead
 
 pub beside-requires : goal.beside-requires
 beside-requires g c = can-read (g.Input.InputIndexer.view c.args.input.now) (g.met.Input.InputIndexer.are_of_kind c.args.input.now) c.places.at c.places.invariant.place
