@@ -1,2 +1,3 @@
 pub use Rattle.regress_engine_trying.proofs.CountLemmas
 pub use Rattle.regress_engine_trying.proofs.RememberLemmas
+mod TabledLemmas

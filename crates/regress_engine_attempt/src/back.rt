@@ -9,6 +9,7 @@ ghost use Rattle.regress_engine_runs.specs.Runs.{gap};
 ghost use Rattle.regress_engine_runs.specs.UndoStack.{give_back, take_on};
 ghost use Rattle.regress_engine_search.specs.Ready.{IsBody, IsReady};
 ghost use Rattle.regress_engine_search.specs.StateViews.{marks_of};
+ghost use Rattle.regress_engine_singles.specs.Taking.{IsFirstAlone};
 ghost use Rattle.regress_engine_undo.specs.Held.{held, undo_of, pushed};
 ghost use Rattle.regress_engine_search.specs.Search.{Suits};
 ghost use Rattle.regress_engine_undo.specs.Dead.{GivesFrom, TakesFrom};
@@ -25,7 +26,7 @@ use regress_engine_advance::{
 };
 use regress_engine_insn::Insn;
 use regress_engine_search::ExecutorInput;
-use regress_engine_singles::{first_byte, taken_before};
+use regress_engine_singles::{first_alone, first_byte, taken_before};
 use regress_engine_trying::{Exit, exhaust};
 use regress_engine_undo::{Memory, Spot, Undo, is_ahead};
 use regress_front_core::GroupData;
@@ -186,7 +187,7 @@ impl<'a, Input: ExecutorInput> Attempt<'a, Input> {
         offset: usize,
     ) -> usize
         requires place { IsAtPlace (reading_of (Input.view self.now.input)) offset }
-        requires first { IfSome first (λ b. (rest : List ℕ) × (instruction insn.now ≡ byte_seq (b ∷ rest))) }
+        requires first { IfSome first (IsFirstAlone (instruction insn.now)) }
         ensures { IsPassed (world Input.view self.now) (instruction insn.now) (instruction body.now) forward left offset result }
     {
         match first {
@@ -221,7 +222,8 @@ impl<'a, Input: ExecutorInput> Attempt<'a, Input> {
         };
         let first = first_byte(insn);
         let body = self.instruction(at - 1);
-        let mut near = self.passed_before(insn, first, body, left, forward, offset);
+        let stop = first_alone(insn);
+        let mut near = self.passed_before(insn, stop, body, left, forward, offset);
         let mut rest = left - (near - offset);
         'places: loop {
             if self.stands(insn, first, forward, groups, near) {

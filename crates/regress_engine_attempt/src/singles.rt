@@ -16,7 +16,7 @@ use crate::counts::Counts;
 use regress_engine_advance::{after_times, as_far};
 use regress_engine_insn::Insn;
 use regress_engine_search::ExecutorInput;
-use regress_engine_singles::is_possessive;
+use regress_engine_singles::{is_possessive, is_stopped};
 use regress_engine_undo::{Memory, Spot};
 use std::alloc::AllocError;
 
@@ -172,6 +172,10 @@ impl<'a, Input: ExecutorInput> Attempt<'a, Input> {
     {
         let insn = self.instruction(spot.at + 1);
         if greedy && least == 0 && spot.forward {
+            if is_stopped(self.program, &self.input, insn, spot.offset) {
+                spot.at += 2;
+                return Ok(true);
+            }
             if self.spares(spot.at) {
                 self.repeat_all(insn, most, counts, memory, spot);
                 return Ok(true);

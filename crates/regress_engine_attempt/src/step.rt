@@ -94,6 +94,7 @@ impl<'a, Input: ExecutorInput> Attempt<'a, Input> {
     {
         let insn = self.instruction(spot.at);
         match insn {
+            Insn::Goal if !self.program.has_submatches() => Ok(None),
             Insn::Goal => memory.leave(answer, spot),
             Insn::Jump { target } => {
                 spot.at = *target as usize;

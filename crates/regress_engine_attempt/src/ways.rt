@@ -1,5 +1,5 @@
 //! Where it continues at once, since one of two ways surely leads nowhere.
-ghost use Rattle.std.specs.Prelude.{◌+◌, ◌^◌, ◌<◌, ℕ, true, Some};
+ghost use Rattle.std.specs.Prelude.{◌+◌, ◌^◌, ◌<◌, ℕ, true, false, Some};
 ghost use Rattle.regress_engine_insn.specs.Instructions.{Stands, alt};
 ghost use Rattle.regress_engine_code.specs.Standing.{program_of};
 ghost use Rattle.regress_engine_search.specs.Search.{Suits};
@@ -7,35 +7,23 @@ ghost use Rattle.regress_engine_attempt.specs.Attempts.{world};
 ghost use Rattle.regress_engine_trying.specs.Trying.{IsWayIn, StandsAhead};
 
 use crate::attempt::Attempt;
-use regress_engine_advance::{is_dead_ahead, is_dead_behind, lead_ahead};
-use regress_engine_insn::Insn;
+use regress_engine_advance::{is_dead_behind, lead_ahead};
 use regress_engine_search::ExecutorInput;
 
 impl<'a, Input: ExecutorInput> Attempt<'a, Input> {
-    /// Where it continues, read forward, before this byte: as long as one of two ways surely leads nowhere, by the other.
-    #[inline(always)]
-    fn way_ahead(&self, start: usize, byte: u8) -> usize
-        requires { Suits (program_of self.now.program.now) (Input.view self.now.input) }
-        ensures { (o : ℕ) → StandsAhead (world Input.view self.now) byte o → IsWayIn (world Input.view self.now) true o start result }
+    /// The address at which it continues from two ways, read backward, by what stands before an offset.
+    #[inline(never)]
+    fn way_behind(&self, at: usize, second: usize, offset: usize) -> usize
+        requires suits { Suits (program_of self.now.program.now) (Input.view self.now.input) }
+        requires stands { Stands (program_of self.now.program.now) at (alt second) }
+        requires room { at + 1 < 2 ^ 64 }
+        ensures { IsWayIn (world Input.view self.now) false offset at result }
     {
-        let insns = self.program.insns();
-        let mut at = start;
-        'ways: while at < insns.len() {
-            let Insn::Alt { secondary } = &insns[at] else {
-                break;
-            };
-            let second = *secondary as usize;
-            if second <= at {
-                break;
-            }
-            if is_dead_ahead(self.program, at + 1, byte) {
-                at = second;
-                continue;
-            }
-            if !is_dead_ahead(self.program, second, byte) {
-                break;
-            }
-            at += 1;
+        if is_dead_behind(self.program, &self.input, at + 1, offset) {
+            return second;
+        }
+        if is_dead_behind(self.program, &self.input, second, offset) {
+            return at + 1;
         }
         at
     }
@@ -50,16 +38,10 @@ impl<'a, Input: ExecutorInput> Attempt<'a, Input> {
     {
         if forward {
             return match lead_ahead(&self.input, offset) {
-                Some(byte) => self.way_ahead(at, byte),
+                Some(byte) => self.program.way_from(at, byte),
                 None => at,
             };
         }
-        if is_dead_behind(self.program, &self.input, at + 1, offset) {
-            return second;
-        }
-        if is_dead_behind(self.program, &self.input, second, offset) {
-            return at + 1;
-        }
-        at
+        self.way_behind(at, second, offset)
     }
 }

@@ -6,3 +6,4 @@ pub mod PassedLemmas
 pub mod CountLemmas
 pub mod TakeLemmas
 pub mod TurnPlaces
+pub mod StayLemmas

@@ -1,15 +1,18 @@
 -- Places that a lazy loop passes over at once.
-use Rattle.std.specs.Prelude.{slice_index, ◌==◌}
+use Rattle.std.specs.Prelude.{slice_index, ◌==◌, nat_eq, if◌then◌else◌}
+use Rattle.std.proofs.lemmas.Bool.{eqb-false, ne_eqb}
 use Rattle.std.proofs.Common.{◌≡◌, ℕ, zero, suc, ◌+◌, ◌-◌, ◌<◌, ◌≤◌, Bool, true, false, [], ◌∷◌, List, Option, Some, None, sym, ap, ap₂, ◌∙◌, subst, arith}
 use Rattle.regress_meaning.specs.Meaning.{Forward}
+use Rattle.regress_meaning.specs.Steps.{passed}
 use Rattle.regress_engine_input.specs.Views.{AreOfKind, direction_of, input_of}
-use Rattle.regress_engine_insn.specs.Instructions.{Instruction, Program, Stands, byte_seq}
+use Rattle.regress_engine_insn.specs.Instructions.{Instruction, Program, Stands, byte_seq, char}
 use Rattle.regress_engine_runs.specs.States.{Marks}
 use Rattle.regress_engine_runs.specs.Runs.{advance}
 use Rattle.regress_engine_search.specs.Ready.{IsBody}
 use Rattle.regress_engine_search.specs.Search.{Suits}
 use Rattle.regress_engine_search.proofs.ReadyLemmas.{body-next}
 use Rattle.regress_engine_singles.specs.Failing.{IsDead, TakesNothing}
+use Rattle.regress_engine_singles.specs.Passing.{IsAsciiAhead}
 use Rattle.regress_engine_singles.proofs.ByteLemmas.{other-there}
 use Rattle.regress_engine_undo.specs.Dead.{TakesFrom}
 use Rattle.regress_engine_undo.proofs.DeadLemmas.{takes-same, takes-over, takes-then}
@@ -34,6 +37,20 @@ passed-other w i j left o near b rest is low room each other = record {
   taken = λ groups k from less. each w.program groups k from less;
   none = λ groups k from less. subst (λ x. None ≡ advance w.program (input_of w.view) x Forward groups k) (sym is) (other-there w.view b rest k (other k from less));
 }
+
+-- or such at which another character of ASCII stands than the one that is taken
+pub passed-char : (w : World) (i j : Instruction) (left o near b : ℕ) → i ≡ char b → o ≤ near → near - o ≤ left
+    → ((program : Program) (groups : List Marks) (k : ℕ) → o ≤ k → k < near → Some (suc k) ≡ advance program (input_of w.view) j Forward groups k)
+    → ((k : ℕ) → o ≤ k → k < near → IsAsciiAhead w.view k) → ((k : ℕ) → o ≤ k → k < near → (slice_index w.view.units k == b) ≡ false) → IsPassed w i j true left o near
+passed-char w i j left o near b is low room each low_ahead other = record {
+  low = low;
+  room = room;
+  taken = λ groups k from less. each w.program groups k from less;
+  none = λ groups k from less. subst (λ x. None ≡ advance w.program (input_of w.view) x Forward groups k) (sym is) (not-taken k (low_ahead k from less) (other k from less));
+}
+  where
+    not-taken : (k : ℕ) → IsAsciiAhead w.view k → (slice_index w.view.units k == b) ≡ false → None ≡ passed (nat_eq b) ((input_of w.view).next Forward k)
+    not-taken k ahead differs = sym (ap (passed (nat_eq b)) ahead.next ∙ ap (λ t. if t then Some (suc k) else None) (ne_eqb b (slice_index w.view.units k) (λ e. eqb-false (slice_index w.view.units k) b differs (sym e))))
 
 module _ (w : World) (at : ℕ) (i j : Instruction) (forward : Bool) (here : Stands w.program (at - 1) j)
     (dead : (o : ℕ) → TakesNothing w.program (input_of w.view) (direction_of forward) i o → IsDead w.program (input_of w.view) (direction_of forward) at o) where

@@ -4,7 +4,7 @@ use Rattle.std.proofs.Common.{◌≡◌, ℕ, zero, suc, ◌+◌, ◌-◌, ◌<�
 use Rattle.std.proofs.lemmas.List.{length-set}
 use Rattle.regress_meaning.specs.Inputs.{Input}
 use Rattle.regress_engine_input.specs.Views.{View, direction_of, reading_of}
-use Rattle.regress_engine_insn.specs.Instructions.{Program, Instruction, Stands}
+use Rattle.regress_engine_insn.specs.Instructions.{Program, Instruction, Stands, submatch}
 use Rattle.regress_engine_runs.specs.States.{Whole, Marks}
 use Rattle.regress_engine_runs.specs.Runs.{against, gap, advance, one_more}
 use Rattle.regress_engine_runs.specs.Meets.{IsAtPlace}
@@ -165,11 +165,12 @@ module _ (program : Program) (v : View) where
 
   pub held-frame : (h : Held) (f : Frame) → IsHeld program v (pushed (frame f) h) → ((k : ℕ) → f.first ≤ k → k < f.last → k < program.groups) × IsHeld program v h
   unfolding IsSound
-  held-frame h f held = (held.sound.0, record { loops = held.loops; groups = held.groups; sound = held.sound.1 })
+  held-frame h f held = (held.sound.0, record { loops = held.loops; groups = held.groups; sound = held.sound.2 })
 
-  pub frame-held : (h k : Held) (f : Frame) → k ≡ pushed (frame f) h → ((k : ℕ) → f.first ≤ k → k < f.last → k < program.groups) → IsHeld program v h → IsHeld program v k
+  pub frame-held : (h k : Held) (f : Frame) → k ≡ pushed (frame f) h → ((k : ℕ) → f.first ≤ k → k < f.last → k < program.groups)
+      → Stands program f.at (submatch f.kind f.first f.last f.continuation) → IsHeld program v h → IsHeld program v k
   unfolding IsSound
-  frame-held h k f is groups held = subst (IsHeld program v) (sym is) (record { loops = held.loops; groups = held.groups; sound = (groups, held.sound) })
+  frame-held h k f is groups here held = subst (IsHeld program v) (sym is) (record { loops = held.loops; groups = held.groups; sound = (groups, here, held.sound) })
 
   pub held-old_loop : (h k : Held) (id : ℕ) (x : ℕ × ℕ) → k ≡ record h { loops = slice_set h.loops id x } → IsHeld program v (pushed (old_loop id x) h) → IsHeld program v k
   unfolding IsSound

@@ -5,6 +5,7 @@ pub mod StepLemmas
 pub mod BackLemmas
 pub mod GoalLemmas
 pub mod LeaveLemmas
+pub mod PlainLemmas
 pub mod DispatchLemmas
 pub mod SingleLemmas
 pub mod DeadLemmas

@@ -1,5 +1,4 @@
-use Rattle.std.proofs.Common.{◌≡◌, ◌-◌, inl, inr, map, sym, ap, ◌∙◌, subst, arith, refl}
-use Rattle.regress_engine_insn.specs.Instructions.{Stands}
+use Rattle.std.proofs.Common.{inl, inr, map, sym, ap, ◌∙◌, subst, arith, refl}
 use Rattle.regress_engine_insn.specs.InsnViews.{instruction}
 use Rattle.regress_engine_code.specs.Standing.{program_of}
 use Rattle.regress_engine_input.specs.Views.{direction_of, input_of}

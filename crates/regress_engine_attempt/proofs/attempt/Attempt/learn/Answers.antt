@@ -1,4 +1,4 @@
-use Rattle.std.proofs.Common.{ℕ, false, refl, sym, subst, ◌∙◌, IfSome}
+use Rattle.std.proofs.Common.{ℕ, false, refl, sym, subst, IfSome}
 use Rattle.regress_engine_code.specs.Standing.{program_of}
 use Rattle.regress_engine_undo.specs.declared.undo.Spot.{Spot}
 use Rattle.regress_engine_undo.specs.Held.{held, pushed, undo_of}

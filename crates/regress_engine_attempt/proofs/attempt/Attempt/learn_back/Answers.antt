@@ -1,6 +1,5 @@
 use Rattle.std.proofs.Common.{not, sym}
-use Rattle.regress_engine_code.specs.Standing.{program_of}
-use Rattle.regress_engine_input.specs.Views.{direction_of, input_of}
+use Rattle.regress_engine_input.specs.Views.{direction_of}
 use Rattle.regress_engine_search.proofs.PlaceLemmas.{can-read, next-place}
 use Rattle.regress_engine_attempt.proofs.attempt.Attempt.learn_back.Goals as goal
 

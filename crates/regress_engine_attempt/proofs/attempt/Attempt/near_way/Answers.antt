@@ -17,7 +17,7 @@ pub returns-in_default-clause-leads : goal.returns-in_default-clause-leads
 returns-in_default-clause-leads g c = takes-same _ _ c.args.forward c.args.at c.args.offset c.args.left
 
 pub passed_before-near-requires : goal.passed_before-near-requires
-passed_before-near-requires g c = record { place = c.requires.body.3; first = c.first_byte-first.ensures.some }
+passed_before-near-requires g c = record { place = c.requires.body.3; first = c.first_alone-stop.ensures }
 
 pub places-init : goal.places-init
 places-init g c =

@@ -16,6 +16,7 @@ use Rattle.regress_engine_undo.specs.declared.undo.Spot.{Spot}
 use Rattle.regress_engine_undo.specs.Tasks.{state_at, task, task_of, ways_in}
 use Rattle.regress_engine_undo.proofs.BackLemmas.{frame-held}
 use Rattle.regress_engine_undo.proofs.DispatchLemmas.{step-on, jump-on, mark-on, submatch-on}
+use Rattle.regress_engine_undo.proofs.PlainLemmas.{none-stands, goal-ends}
 use Rattle.regress_engine_undo.proofs.TurnLemmas.{first-place}
 use Rattle.regress_engine_attempt.proofs.attempt.Attempt.step.Goals as goal
 
@@ -129,6 +130,17 @@ choose-requires-clause-place g c =
     let (i, there, is) = c.is_turn_at.ensures c.if-is_turn_at.true in
     first-place program (g.Input.InputIndexer.view c.args.self.now.input) c.args.spot.now (held c.args.memory.now) c.in-Alt.secondary i here there is c.requires.later
 
+pub returns-in-Goal-clause-leads : goal.returns-in-Goal-clause-leads
+returns-in-Goal-clause-leads g c =
+    let compiled = c.args.self.now.program.now in
+    let program = program_of compiled in
+    let v = g.Input.InputIndexer.view c.args.self.now.input in
+    let p = c.args.spot.now in
+    let h = held c.args.memory.now in
+    let here = stands-as program p.at _ _ c.in-Goal.is c.instruction-insn.ensures.stands in
+    let none = sym c.has_submatches.ensures ∙ c.if-not-has_submatches.true in
+    (refl, refl, goal-ends program v (none-stands program compiled.insns.items refl none) (input_of v) p h c.requires.sound here)
+
 pub returns-in-Jump-clause-leads : goal.returns-in-Jump-clause-leads
 returns-in-Jump-clause-leads g c =
     let program = program_of c.args.self.now.program.now in
@@ -223,7 +235,7 @@ returns-in_ok-begin_around-in-Lookahead-clause-sound g c =
     let p = c.args.spot.now in
     let h = held c.args.memory.now in
     let here = stands-as program p.at _ _ c.in-Lookahead.is c.instruction-insn.ensures.stands in
-    frame-held program (g.Input.InputIndexer.view c.args.self.now.input) h _ _ c.in_ok-begin_around-in-Lookahead.ensures.pushed (c.requires.suits.closed p.at _ here) c.requires.sound
+    frame-held program (g.Input.InputIndexer.view c.args.self.now.input) h _ _ c.in_ok-begin_around-in-Lookahead.ensures.pushed (c.requires.suits.closed p.at _ here) here c.requires.sound
 
 pub returns-in_ok-begin_around-in-Lookbehind-clause-leads : goal.returns-in_ok-begin_around-in-Lookbehind-clause-leads
 returns-in_ok-begin_around-in-Lookbehind-clause-leads g c =
@@ -241,7 +253,7 @@ returns-in_ok-begin_around-in-Lookbehind-clause-sound g c =
     let p = c.args.spot.now in
     let h = held c.args.memory.now in
     let here = stands-as program p.at _ _ c.in-Lookbehind.is c.instruction-insn.ensures.stands in
-    frame-held program (g.Input.InputIndexer.view c.args.self.now.input) h _ _ c.in_ok-begin_around-in-Lookbehind.ensures.pushed (c.requires.suits.closed p.at _ here) c.requires.sound
+    frame-held program (g.Input.InputIndexer.view c.args.self.now.input) h _ _ c.in_ok-begin_around-in-Lookbehind.ensures.pushed (c.requires.suits.closed p.at _ here) here c.requires.sound
 
 pub returns-in_ok-begin_atomic-in-Atomic-clause-leads : goal.returns-in_ok-begin_atomic-in-Atomic-clause-leads
 returns-in_ok-begin_atomic-in-Atomic-clause-leads g c =
@@ -259,4 +271,4 @@ returns-in_ok-begin_atomic-in-Atomic-clause-sound g c =
     let p = c.args.spot.now in
     let h = held c.args.memory.now in
     let here = stands-as program p.at _ _ c.in-Atomic.is c.instruction-insn.ensures.stands in
-    frame-held program (g.Input.InputIndexer.view c.args.self.now.input) h _ _ c.in_ok-begin_atomic-in-Atomic.ensures.pushed (c.requires.suits.closed p.at _ here) c.requires.sound
+    frame-held program (g.Input.InputIndexer.view c.args.self.now.input) h _ _ c.in_ok-begin_atomic-in-Atomic.ensures.pushed (c.requires.suits.closed p.at _ here) here c.requires.sound

@@ -1,4 +1,4 @@
-use Rattle.std.proofs.Common.{true, subst, arith}
+use Rattle.std.proofs.Common.{subst, arith}
 use Rattle.regress_engine_code.specs.Standing.{program_of}
 use Rattle.regress_engine_input.specs.Views.{direction_of}
 use Rattle.regress_engine_search.proofs.TaskLemmas.{tried-stands, tried-reads}

@@ -1,4 +1,4 @@
-use Rattle.std.proofs.Common.{sym, subst, arith}
+use Rattle.std.proofs.Common.{subst}
 use Rattle.regress_engine_code.specs.Standing.{program_of}
 use Rattle.regress_engine_undo.specs.Held.{held, undo_of}
 use Rattle.regress_engine_trying.proofs.CountLemmas.{undoes-none}

@@ -1,20 +1,19 @@
-use Rattle.std.proofs.Common.{◌+◌, sym, subst}
-use Rattle.regress_engine_code.specs.Standing.{program_of}
-use Rattle.regress_engine_input.specs.Views.{direction_of, input_of}
-use Rattle.regress_engine_singles.specs.Failing.{IsDead}
-use Rattle.regress_engine_trying.proofs.WayLemmas.{way-first, way-second, way-here}
+use Rattle.std.proofs.Common.{rules, ◌≡◌, ◌<◌, true, Some, sym, subst}
+use Rattle.regress_engine_singles.specs.Leads.{lead_ahead}
+use Rattle.regress_engine_attempt.specs.Attempts.{world}
+use Rattle.regress_engine_trying.specs.Trying.{IsWayIn}
+use Rattle.regress_engine_attempt.proofs.TabledLemmas.{way-told}
 use Rattle.regress_engine_attempt.proofs.attempt.Attempt.way_of_two.Goals as goal
 
-pub returns-then-is_dead_behind : goal.returns-then-is_dead_behind
-returns-then-is_dead_behind g c =
-    let program = program_of c.args.self.now.program.now in
-    let input = input_of (g.Input.InputIndexer.view c.args.self.now.input) in
-    let dead = subst (λ b. IsDead program input (direction_of b) (c.args.at + 1) c.args.offset) (sym c.if-forward.false) (c.is_dead_behind.ensures c.if-is_dead_behind.true) in
-    way-second program input c.args.forward c.args.offset c.args.at c.args.at c.args.second c.requires.stands dead (way-here program input c.args.forward c.args.offset c.args.at)
+pub returns-in-Some : goal.returns-in-Some
+returns-in-Some g c =
+    let w = world g.Input.InputIndexer.view c.args.self.now in
+    let small : c.in-Some.byte < 256 = search rules in
+    let ahead : Some c.in-Some.byte ≡ lead_ahead w.view c.args.offset = search rules in
+    subst (λ b. IsWayIn w b c.args.offset c.args.at c.way_from.result) (sym c.if-forward.true)
+    (subst (IsWayIn w true c.args.offset c.args.at) (sym c.way_from.ensures)
+    (way-told c.args.self.now.program.now w.view (g.met.Input.InputIndexer.are_of_kind c.args.self.now.input) c.requires.suits c.args.offset c.in-Some.byte small ahead c.args.at))
 
-pub returns-then-is_dead_behind-2 : goal.returns-then-is_dead_behind-2
-returns-then-is_dead_behind-2 g c =
-    let program = program_of c.args.self.now.program.now in
-    let input = input_of (g.Input.InputIndexer.view c.args.self.now.input) in
-    let dead = subst (λ b. IsDead program input (direction_of b) c.args.second c.args.offset) (sym c.if-forward.false) (c.is_dead_behind-2.ensures c.if-is_dead_behind-2.true) in
-    way-first program input c.args.forward c.args.offset c.args.at c.args.at c.args.second c.requires.stands dead (way-here program input c.args.forward c.args.offset c.args.at)
+pub returns : goal.returns
+returns g c =
+    subst (λ b. IsWayIn (world g.Input.InputIndexer.view c.args.self.now) b c.args.offset c.args.at c.way_behind.result) (sym c.if-forward.false) c.way_behind.ensures
