@@ -1,10 +1,14 @@
 -- What an executor searches, and what it holds.
 use Rattle.std.specs.Prelude.{◌≡◌, ℕ, Bool, List, Option, None, Some, length, map, is_some, option_map}
-use Rattle.regress_engine_input.specs.Views.{View}
+use Rattle.std.specs.declared.ops.Range.{Range}
+use Rattle.regress_meaning.specs.Matches.{Item}
+use Rattle.regress_engine_input.specs.Views.{View, input_of, reading_of}
 use Rattle.regress_engine_insn.specs.Instructions.{Program}
 use Rattle.regress_engine_code.specs.Standing.{program_of}
+use Rattle.regress_engine_runs.specs.Items.{Finds}
 use Rattle.regress_engine_runs.specs.States.{Marks}
-use Rattle.regress_engine_search.specs.Search.{Search}
+use Rattle.regress_engine_search.specs.Answering.{IsOutcome}
+use Rattle.regress_engine_search.specs.Search.{IsWritten, Search}
 use Rattle.regress_engine_search.specs.StateViews.{marks_of}
 use Rattle.regress_engine_search.specs.declared.budget.StepsLeft.{StepsLeft}
 use Rattle.regress_engine_linear.specs.declared.testing.LinearTable.{LinearTable}
@@ -44,6 +48,22 @@ turns_in e = is_some e.turning
 -- the table of its program, if it turns to one of the text
 abbrev pub table_in : {I B : Type 0} {g : _} → Backtracker I B g → Option LinearTable
 table_in e = option_map (λ t. t.table.now) e.turning
+
+-- a search from an offset on finds this, or nothing
+abbrev pub FindsIn : {I B : Type 0} {g : _} → (I → View) → Backtracker I B g → (at : ℕ) → Option Item → Type 0
+FindsIn view e at = Finds (program_in e) (input_of (view e.context.input)) at
+
+-- the run from an offset has this outcome
+abbrev pub HasOutcome : {I B : Type 0} {g : _} → (I → View) → Backtracker I B g → (at : ℕ) → Option Item → Type 0
+HasOutcome view e at = IsOutcome (program_in e) (input_of (view e.context.input)) at
+
+-- what a search from an offset on finds is written to slots
+abbrev pub WritesFound : {I B : Type 0} {g : _} → (I → View) → Backtracker I B g → (at : ℕ) → Option (Range ℕ) → (old new : List (Option (Range ℕ))) → Type 0
+WritesFound view e at found old new = IsWritten (FindsIn view e at) (reading_of (view e.context.input)) found old new
+
+-- and so is the outcome of the run from an offset
+abbrev pub WritesOutcome : {I B : Type 0} {g : _} → (I → View) → Backtracker I B g → (at : ℕ) → Option (Range ℕ) → (old new : List (Option (Range ℕ))) → Type 0
+WritesOutcome view e at found old new = IsWritten (HasOutcome view e at) (reading_of (view e.context.input)) found old new
 
 -- how many steps its searches took by tables, with those that it will take to make that of the text, where it is not there yet
 abbrev pub tabled_in : {I B : Type 0} {g : _} → Backtracker I B g → ℕ

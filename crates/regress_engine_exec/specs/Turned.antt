@@ -18,7 +18,7 @@ most_told = 2 ^ 29
 
 -- so many offsets at most are kept while the table of a text is made
 abbrev pub most_kept : ℕ
-most_kept = 2 ^ 22
+most_kept = 2 ^ 23
 
 -- the table of a text of so many units takes no more: a bit for each address at each offset; nor does what is kept meanwhile, an offset for each
 -- address inside of an atomic group at each offset

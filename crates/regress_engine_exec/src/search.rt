@@ -6,15 +6,11 @@ ghost use Rattle.regress_engine_code.specs.Standing.{names_of, program_of};
 ghost use Rattle.regress_front_core.specs.FlagWords.{options};
 ghost use Rattle.regress_meaning.specs.Flags.{is_unicode};
 ghost use Rattle.regress_front_tables.specs.TableViews.{table};
-ghost use Rattle.regress_engine_input.specs.Views.{input_of, reading_of, utf8};
-ghost use Rattle.regress_engine_runs.specs.Items.{Finds};
+ghost use Rattle.regress_engine_input.specs.Views.{reading_of, utf8};
 ghost use Rattle.regress_engine_runs.specs.Meets.{IsAtPlace};
-ghost use Rattle.regress_engine_search.specs.Answering.{IsOutcome};
 ghost use Rattle.regress_engine_search.specs.Contexts.{IsAnswerIn, IsFoundIn};
-ghost use Rattle.regress_engine_search.specs.Search.{IsMadeOf, IsItemAtPlaces, IsWritten};
+ghost use Rattle.regress_engine_search.specs.Search.{IsMadeOf, IsItemAtPlaces};
 ghost use Rattle.regress_engine_attempt.specs.Attempts.{Remembers, world_of};
-ghost use Rattle.regress_engine_attempt.specs.Counting.{CountsRun};
-ghost use Rattle.regress_engine_exec.specs.Counting.{CountsSearch};
 ghost use Rattle.regress_engine_exec.specs.Turned.{NeverOver, TellsLinear, TurnsTo, enough_by, ends, filled_by, may_turn};
 
 use crate::budget::SearchBudget;
@@ -51,8 +47,8 @@ pub struct Backtracker<'r, Input: Shown, B> {
 }
 
 /// Finds the matches of a program in a text, however many steps that takes. If the program is linear and something is repeated inside of one of
-/// its lookarounds, its searches go on by a table of the text once they took as many steps as `linear_steps` tells, so that
-/// their time grows as the text does.
+/// its lookarounds or atomic groups, its searches go on by a table of the text once they took a step for each of its addresses at each offset
+/// and at 64 more, so that their time grows as the text does.
 pub type BacktrackExecutor<'r, Input> = Backtracker<'r, Input, Unbounded>;
 
 /// Finds the matches of a program in a text, as `BacktrackExecutor` does, in so many steps for all its searches. A search that would
@@ -180,8 +176,9 @@ impl<'r, Input: ExecutorInput, B: SearchBudget> Backtracker<'r, Input, B> {
     }
 
     /// How many steps its searches took by tables, of the program and of the text, to which they turn where no more may be counted against the
-    /// budget: two for each address of the program at each offset of the text, to make the text's, and one for each address at each offset
-    /// that a walk along a match passes. Of a whole iteration they are no more than the steps that are enough (`linear_steps`).
+    /// budget: at most one for each address of the program at each offset of the text, to make the text's, one for each that a walk along a match
+    /// passes, and from the start of the text one more for each. Of a whole iteration they are no more than the steps that are enough
+    /// (`linear_steps`).
     ///
     /// ```rust
     /// let steps = executor.table_steps();
@@ -471,11 +468,11 @@ impl<'r, Input: ExecutorInput, B: SearchBudget> Backtracker<'r, Input, B> {
     /// ```
     pub fn find_from(&mut self, offset: usize) -> Result<Option<Match>, B::Error>
         requires { IsAtPlace (reading_of (Input.view self.old.context.input)) offset }
-        ensures found { IfOk result (λ found. Finds (program_of self.old.context.program.now) (input_of (Input.view self.old.context.input)) offset (option_map item_of found)) }
+        ensures found { IfOk result (λ found. FindsIn Input.view self.old offset (option_map item_of found)) }
         ensures inside { IfOk result (λ found. IfSome found (λ m. IsItemAtPlaces (reading_of (Input.view self.old.context.input)) (item_of m))) }
         ensures named { IfOk result (λ found. IfSome found (λ m. names_of_match m ≡ names_of self.old.context.program.now)) }
-        ensures counted { IfOk result (λ _. CountsSearch (program_in self.old) (Input.view self.old.context.input) offset (B.left (budget_of self.old)) (B.left (budget_of self.new))) }
-        ensures stopped { IfErr result (λ e. B.is_over e → (B.left (budget_of self.new) ≡ Some 0) × CountsSearch (program_in self.old) (Input.view self.old.context.input) offset (B.left (budget_of self.old)) (B.left (budget_of self.new))) }
+        ensures counted { IfOk result (λ _. SearchCounts Input.view B.left offset self.old self.new) }
+        ensures stopped { IfErr result (λ e. B.is_over e → SearchStops Input.view B.left offset self.old self.new) }
         ensures never { IfErr result (NeverOver B.is_over (turns_in self.old)) }
         ensures kept { self.new.context ≡ self.old.context }
         ensures turns { turns_in self.new ≡ turns_in self.old }
@@ -508,10 +505,10 @@ impl<'r, Input: ExecutorInput, B: SearchBudget> Backtracker<'r, Input, B> {
         slots: &mut [Option<Range>],
     ) -> Result<Option<Range>, B::Error>
         requires { IsAtPlace (reading_of (Input.view self.old.context.input)) offset }
-        ensures found { IfOk result (λ found. IsWritten (Finds (program_of self.old.context.program.now) (input_of (Input.view self.old.context.input)) offset) (reading_of (Input.view self.old.context.input)) found slots.old slots.new) }
+        ensures found { IfOk result (λ found. WritesFound Input.view self.old offset found slots.old slots.new) }
         ensures untouched { OnErr result (slots.new ≡ slots.old) }
-        ensures counted { IfOk result (λ _. CountsSearch (program_in self.old) (Input.view self.old.context.input) offset (B.left (budget_of self.old)) (B.left (budget_of self.new))) }
-        ensures stopped { IfErr result (λ e. B.is_over e → (B.left (budget_of self.new) ≡ Some 0) × CountsSearch (program_in self.old) (Input.view self.old.context.input) offset (B.left (budget_of self.old)) (B.left (budget_of self.new))) }
+        ensures counted { IfOk result (λ _. SearchCounts Input.view B.left offset self.old self.new) }
+        ensures stopped { IfErr result (λ e. B.is_over e → SearchStops Input.view B.left offset self.old self.new) }
         ensures never { IfErr result (NeverOver B.is_over (turns_in self.old)) }
         ensures kept { self.new.context ≡ self.old.context }
         ensures turns { turns_in self.new ≡ turns_in self.old }
@@ -534,11 +531,11 @@ impl<'r, Input: ExecutorInput, B: SearchBudget> Backtracker<'r, Input, B> {
     /// ```
     pub fn match_at(&mut self, offset: usize) -> Result<Option<Match>, B::Error>
         requires { IsAtPlace (reading_of (Input.view self.old.context.input)) offset }
-        ensures outcome { IfOk result (λ found. IsOutcome (program_of self.old.context.program.now) (input_of (Input.view self.old.context.input)) offset (option_map item_of found)) }
+        ensures outcome { IfOk result (λ found. HasOutcome Input.view self.old offset (option_map item_of found)) }
         ensures inside { IfOk result (λ found. IfSome found (λ m. IsItemAtPlaces (reading_of (Input.view self.old.context.input)) (item_of m))) }
         ensures named { IfOk result (λ found. IfSome found (λ m. names_of_match m ≡ names_of self.old.context.program.now)) }
-        ensures counted { IfOk result (λ _. CountsRun (program_in self.old) (Input.view self.old.context.input) offset (B.left (budget_of self.old)) (B.left (budget_of self.new))) }
-        ensures stopped { IfErr result (λ e. B.is_over e → (B.left (budget_of self.new) ≡ Some 0) × CountsRun (program_in self.old) (Input.view self.old.context.input) offset (B.left (budget_of self.old)) (B.left (budget_of self.new))) }
+        ensures counted { IfOk result (λ _. RunCounts Input.view B.left offset self.old self.new) }
+        ensures stopped { IfErr result (λ e. B.is_over e → RunStops Input.view B.left offset self.old self.new) }
         ensures never { IfErr result (NeverOver B.is_over (turns_in self.old)) }
         ensures kept { self.new.context ≡ self.old.context }
         ensures turns { turns_in self.new ≡ turns_in self.old }
@@ -566,10 +563,10 @@ impl<'r, Input: ExecutorInput, B: SearchBudget> Backtracker<'r, Input, B> {
         slots: &mut [Option<Range>],
     ) -> Result<Option<Range>, B::Error>
         requires { IsAtPlace (reading_of (Input.view self.old.context.input)) offset }
-        ensures outcome { IfOk result (λ found. IsWritten (IsOutcome (program_of self.old.context.program.now) (input_of (Input.view self.old.context.input)) offset) (reading_of (Input.view self.old.context.input)) found slots.old slots.new) }
+        ensures outcome { IfOk result (λ found. WritesOutcome Input.view self.old offset found slots.old slots.new) }
         ensures untouched { OnErr result (slots.new ≡ slots.old) }
-        ensures counted { IfOk result (λ _. CountsRun (program_in self.old) (Input.view self.old.context.input) offset (B.left (budget_of self.old)) (B.left (budget_of self.new))) }
-        ensures stopped { IfErr result (λ e. B.is_over e → (B.left (budget_of self.new) ≡ Some 0) × CountsRun (program_in self.old) (Input.view self.old.context.input) offset (B.left (budget_of self.old)) (B.left (budget_of self.new))) }
+        ensures counted { IfOk result (λ _. RunCounts Input.view B.left offset self.old self.new) }
+        ensures stopped { IfErr result (λ e. B.is_over e → RunStops Input.view B.left offset self.old self.new) }
         ensures never { IfErr result (NeverOver B.is_over (turns_in self.old)) }
         ensures kept { self.new.context ≡ self.old.context }
         ensures turns { turns_in self.new ≡ turns_in self.old }

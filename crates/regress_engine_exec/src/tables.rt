@@ -7,7 +7,7 @@ ghost use Rattle.regress_engine_search.specs.Contexts.{IsAnswerIn, IsFoundIn};
 ghost use Rattle.regress_engine_search.specs.StateViews.{marks_of};
 ghost use Rattle.regress_engine_exec.specs.Turned.{GoesOnBy};
 
-use crate::turning::{LINEAR_STEPS, MOST_TOLD, fits_told};
+use crate::turning::{MOST_TOLD, fits_told};
 use regress_engine_insn::Insn;
 use regress_engine_linear::{LinearTable, MOST_ADDRESSES};
 use regress_engine_search::{ExecutorInput, SearchContext, StepsLeft};
@@ -94,9 +94,9 @@ fn repeats_inside(insns: &[Insn]) -> bool {
     false
 }
 
-/// How many steps the searches in a text are counted before there are tables: as many as are enough for a linear program, if its tables may
-/// fit and something is repeated inside of a lookaround or an atomic group. Without that what is remembered of failures is
-/// enough, so that there is no need to count.
+/// How many steps the searches in a text are counted before there are tables: one for each address of the program at each offset and at 64
+/// more, about as many as it takes to make the text's, if the tables may fit and something is repeated inside of a lookaround or an atomic
+/// group. Without that what is remembered of failures is enough, so that there is no need to count.
 pub(crate) fn patience<Input: ExecutorInput>(context: &SearchContext<'_, Input>) -> StepsLeft {
     let program = context.program;
     if !program.has_submatches() || !repeats_inside(program.insns()) {
@@ -108,6 +108,5 @@ pub(crate) fn patience<Input: ExecutorInput>(context: &SearchContext<'_, Input>)
     if count > MOST_ADDRESSES || bits > MOST_TOLD {
         return StepsLeft(0);
     }
-    let places = units.saturating_add(64);
-    StepsLeft(LINEAR_STEPS.saturating_mul(count.saturating_mul(places)))
+    StepsLeft(count.saturating_mul(units.saturating_add(64)))
 }

@@ -20,7 +20,7 @@ pub const MOST_TOLD: usize = 1 << 29;
 
 /// While that is made where runs end is kept for each address inside of an atomic group at each offset: so many at most, of 16 bytes each, and
 /// as many for the exits of one-character loops.
-pub const MOST_KEPT: usize = 1 << 22;
+pub const MOST_KEPT: usize = 1 << 23;
 
 /// So many steps for each address of a program, at each offset of a text and at 64 more, are enough for all searches for the matches of a
 /// linear program.
@@ -37,7 +37,8 @@ pub(crate) fn fits_told(table: &LinearTable, units: usize) -> bool
 }
 
 /// How many steps are enough for all searches for the matches of a linear program in a text of so many units: an executor with so many or
-/// more turns to tables after them. `None` where what is told of the text would take more than `MOST_TOLD` bits.
+/// more turns to tables after them. `None` where what is told of the text would take more than `MOST_TOLD` bits, or what is kept meanwhile more than
+/// `MOST_KEPT` offsets.
 ///
 /// ```rust
 /// let steps = linear_steps(&table, text.len());
