@@ -114,7 +114,7 @@ impl<'r, Input: ExecutorInput> BoundedExecutor<'r, Input> {
 }
 
 impl<'r, Input: ExecutorInput, B: SearchBudget> Backtracker<'r, Input, B> {
-    ghost use Rattle.regress_engine_exec.specs.Searches.{RunCounts, RunStops, SearchCounts, SearchStops, budget_of, groups_in, program_in, search_in, table_in, table_steps_of, tabled_in, turns_in, walked_in};
+    ghost use Rattle.regress_engine_exec.specs.Searches.{FindsIn, HasOutcome, RunCounts, RunStops, SearchCounts, SearchStops, WritesFound, WritesOutcome, budget_of, groups_in, program_in, search_in, table_in, table_steps_of, tabled_in, turns_in, walked_in};
 
     /// The executor of a program over a text, with room that other searches have left, and a budget for all its searches. If it is given the
     /// table of its program and the budget has enough steps (`linear_steps`), the budget is lowered to these, and where no more may be counted
