@@ -662,6 +662,8 @@ static inline int32_t regress_is_match_ucs2(regress_search *search, const uint16
  * ranges[k * width + g], where group 0 is the whole match. `found` tells how many matches there are. `start` then tells where the
  * search goes on: call again with it for the matches behind. Once there are no more, it is REGRESS_UNSET, and none is found.
  *
+ * Each call remembers anew from where a pattern of many ways fails. So give it room for many matches, or for twice as many each time.
+ *
  * Where memory is refused, the answer is REGRESS_OUT_OF_MEMORY, and `found` and `start` tell of the matches before. So they do where
  * it is REGRESS_TOO_MANY_STEPS: the search from `start` on takes more steps than it may. Where `width` is 0 or more than `count`, it is
  * REGRESS_NO_ROOM. Any other error leaves `found` and `start` as they were.
