@@ -414,9 +414,10 @@ static inline int32_t regress_is_linear(regress_pattern *pattern) {
  * Once it has taken them it goes on by a table of the text, of a bit for each instruction of the program at each offset. It learns as
  * regress_is_linear does.
  *
- * It writes SIZE_MAX where the pattern isn't known to be linear, and where the table of such a text would take more than 64 MB. That is no
- * number of steps: it would take the bound away. The caller keeps: `steps` points to a number that lies in no other argument, and no other
- * call has the handle. */
+ * It writes SIZE_MAX where the pattern isn't known to be linear, and where the table of such a text would take more than 64 MB, or more than
+ * 8,388,608 offsets would be kept while it is made, one for each instruction inside of an atomic group at each offset. That is no number of
+ * steps: it would take the bound away. The caller keeps: `steps` points to a number that lies in no other argument, and no other call has
+ * the handle. */
 static inline int32_t regress_linear_steps(regress_pattern *pattern, size_t length, size_t *steps) {
   return pattern == NULL || steps == NULL ? REGRESS_NULL : regress_raw_linear_steps(pattern, length, steps);
 }

@@ -409,7 +409,8 @@ class Pattern:
         halves of pairs counts by its 16-bit units. The program of `fullmatch` has the ends of the text too, and takes more.
 
         None where the pattern isn't known to be linear, and where the table of such a string would take more than 64 MB, a bit for each
-        instruction of the program at each offset.
+        instruction of the program at each offset, or more than 8,388,608 offsets would be kept while it is made, one for each instruction
+        inside of an atomic group at each offset.
 
             >>> source = r"^(\\w|\\w\\w)*!$"
             >>> steps = regress.compile(source).linear_steps(4 * 42) or 1_000_000

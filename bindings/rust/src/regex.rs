@@ -134,7 +134,8 @@ impl Regex {
 
     /// How many steps are enough for each search in a text of so many bytes or 16-bit units, or of fewer: with so many or more no call of
     /// [`Regex::within`] errs with `TooManySteps` there. `None` where the pattern isn't known to be linear, and where the table of such a
-    /// text would take more than 64 MB, a bit for each instruction at each offset.
+    /// text would take more than 64 MB, a bit for each instruction at each offset, or more than 8,388,608 offsets would be kept while it is
+    /// made, one for each instruction inside of an atomic group at each offset.
     ///
     /// ```
     /// use regress_proved::{Regex, SearchError};
