@@ -14,7 +14,7 @@ use regress_engine_prefix::{first_of_chars, first_of_intervals};
 use regress_front_bytes::{
     AsciiBitmap, ByteBitmap, ByteSet, ascii_bitmap_holds_ascii, utf8_first_byte,
 };
-use regress_front_sets::{CODE_POINT_MAX, CodePoint, Interval};
+use regress_front_sets::{CODE_POINT_MAX, CodePoint, Interval, add_row};
 
 /// Every byte.
 pub(crate) fn every_byte() -> ByteBitmap
@@ -59,16 +59,6 @@ pub(crate) fn unless_needed(body: ByteBitmap, rest: &ByteBitmap, least: usize) -
 
 /// How many bytes are in a row: those that one number of a set tells, so that a row is written at once.
 const ROW: u8 = 16;
-
-/// Adds a row of bytes, the first of which is a multiple of sixteen.
-fn add_row(bytes: &mut ByteBitmap, row: u8)
-    requires { row < 16 }
-    ensures { (b : ℕ) → byte_bitmap_contains bytes.new b ≡ byte_bitmap_contains bytes.old b || (nat_le (row * 16) b && nat_lt b (row * 16 + 16)) }
-{
-    for place in 0..ROW {
-        bytes.set(row * ROW + place);
-    }
-}
 
 /// The bytes that stand inside of characters.
 fn inside_of_characters() -> ByteBitmap

@@ -13,7 +13,7 @@ pub use character_classes::{
     line_terminator, whitespace, word_chars,
 };
 pub use code_point_set::{CodePointSet, equal_members_equal_intervals, inverted_twice_is_the_same};
-pub use first_bytes::add_utf8_first_bytes_to_bitmap;
+pub use first_bytes::{add_row, add_utf8_first_bytes_to_bitmap};
 pub use halving::{CountedIntervals, Probes, bracket_index};
 pub use interval::{CODE_POINT_MAX, CodePoint, Interval};
 pub use regress_front_bytes::{

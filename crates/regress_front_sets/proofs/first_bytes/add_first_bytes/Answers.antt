@@ -4,7 +4,6 @@ use Rattle.regress_front_sets.proofs.first_bytes.add_first_bytes.Goals as goal
 
 pub returns : goal.returns
 returns c b =
-    let there = c.loop-byte.invariant b in
-    let auto = c.loop-byte.auto.byte-end c.requires in
-    let past = c.loop-byte-test.false in
+    let there = c.loop-row.invariant b in
+    let past = c.loop-row-test.false in
     grind (arith, nat_tests)

@@ -1,7 +1,8 @@
-use Rattle.std.proofs.Common.{◌≡◌, ◌||◌, ◌&&◌, ℕ, nat_le, nat_lt}
+use Rattle.std.proofs.Common.{◌≡◌, ◌*◌, ◌||◌, ◌&&◌, ℕ, nat_lt}
 use Rattle.regress_front_bytes.specs.Bitmaps.{byte_bitmap_contains}
-use Rattle.regress_front_sets.specs.FirstBytes.{may_begin}
+use Rattle.regress_front_sets.specs.FirstBytes.{begins_between}
 use Rattle.regress_front_sets.proofs.first_bytes.add_first_bytes.Given as goal
 
-abbrev pub invariant-loop-byte : goal.invariant-loop-byte
-invariant-loop-byte l = (b : ℕ) → byte_bitmap_contains l.bitmap b ≡ (byte_bitmap_contains l.initial.bitmap b || ((nat_le l.first b && nat_lt b l.byte) && may_begin b))
+-- the bytes of the rows so far
+abbrev pub invariant-loop-row : goal.invariant-loop-row
+invariant-loop-row l = (b : ℕ) → byte_bitmap_contains l.bitmap b ≡ (byte_bitmap_contains l.initial.bitmap b || (begins_between l.first l.last b && nat_lt b (l.row * 16)))

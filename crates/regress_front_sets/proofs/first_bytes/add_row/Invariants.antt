@@ -1,6 +1,6 @@
 use Rattle.std.proofs.Common.{◌≡◌, ℕ, ◌+◌, ◌*◌, ◌||◌, ◌&&◌, nat_le, nat_lt}
 use Rattle.regress_front_bytes.specs.Bitmaps.{byte_bitmap_contains}
-use Rattle.regress_engine_analysis.proofs.sets.add_row.Given as goal
+use Rattle.regress_front_sets.proofs.first_bytes.add_row.Given as goal
 
 -- the bytes so far
 abbrev pub invariant-loop-place : goal.invariant-loop-place
