@@ -34,6 +34,10 @@ const PATTERNS: &[(&str, &str)] = &[
     ("(?:ab|(?=c)c|(?!d)[de])*d", ""),
     ("(?>a|ab)(c|b)?(?>(d)|a)*", ""),
     ("(?:(?>a+|(b))(?<=(?>ab|b|a))|c)*d", ""),
+    (r"\b(\w+)\s+\1", ""),
+    (r"\b([a-c]+)[^a-c]+\1", ""),
+    ("(?:é|s)[abé]*é", "iu"),
+    ("(?:s|(?:É|c))[a-d]{0,2}b", "iu"),
 ];
 
 /// Texts in which each of these is searched for.
@@ -45,6 +49,7 @@ const TEXTS: &[&str] = &[
     "aaacdbcd",
     r#""a\"b" c"d\\" "\"" "ab""#,
     "cats catcaca cabxd",
+    "ab ab abc  abc éaé sab sÉaÉb c",
 ];
 
 /// All matches of a tree in a text, as the evaluator finds them.
