@@ -85,7 +85,8 @@ impl Regex {
 
     /// How many steps are enough for each search, and for each iteration, in a text of so many bytes or 16-bit units: `within` so many or
     /// more none errs with `TooManySteps`. `None` where the pattern isn't known to be linear (`learn_linear`), and where the table of such a text
-    /// would take more than 64 MB, a bit for each instruction at each offset.
+    /// would take more than 64 MB, a bit for each instruction at each offset, or more than 8,388,608 offsets would be kept while it is made,
+    /// one for each instruction inside of an atomic group at each offset.
     ///
     /// ```rust
     /// fn first(regex: &Regex, text: &str) -> Result<Option<Match>, SearchError> {
