@@ -21,5 +21,6 @@ pub use first::taken_first;
 pub use leads::lead_ahead;
 pub use literals::{bytes_beside, other_ahead};
 pub use reading::beside;
+pub use references::differ_ahead;
 pub use room::units_ahead;
 pub use times::{after_times, as_far};

@@ -41,8 +41,12 @@ fn once_more<Input: CharInput, Dir: Direction>(
 }
 
 /// Whether other units stand ahead of two offsets, as the first of them tells. The offsets may be any.
+///
+/// ```rust
+/// let other = differ_ahead(&input, 0, 1); // true of "ab"
+/// ```
 #[inline(always)]
-fn is_other<Input: InputIndexer>(input: &Input, start: usize, offset: usize) -> bool
+pub fn differ_ahead<Input: InputIndexer>(input: &Input, start: usize, offset: usize) -> bool
     ensures { result ≡ true → slice_get (Input.view input.now).units start ≢ slice_get (Input.view input.now).units offset }
 {
     if let Some(text) = input.bytes() {
@@ -73,7 +77,7 @@ pub(crate) fn back_reference<Input: CharInput>(
     let (Some(start), Some(end)) = (group.start, group.end) else {
         return Some(offset);
     };
-    if forward && !icase && start < end && is_other(input, start, offset) {
+    if forward && !icase && start < end && differ_ahead(input, start, offset) {
         return None;
     }
     if forward {

@@ -58,11 +58,11 @@ all-pieces table icase unicode (c ∷ cs) points =
     (expansion-points table unicode c icase (All-head is_code_point c cs points)) (all-pieces table icase unicode cs (All-tail is_code_point c cs points))
 
 -- in either order
-pub All-reverse : (P : Tree → Type 0) (ts : List Tree) → All P ts → All P (reverse ts)
+pub All-reverse : {X : Type 0} (P : X → Type 0) (xs : List X) → All P xs → All P (reverse xs)
 All-reverse P [] h = All-nil P
-All-reverse P (t ∷ ts) h =
-    subst (All P) (sym (reverse-append (t ∷ []) ts))
-    (All-append P (reverse ts) (t ∷ []) (All-reverse P ts (All-tail P t ts h)) (All-cons P t [] (All-head P t ts h) (All-nil P)))
+All-reverse P (x ∷ xs) h =
+    subst (All P) (sym (reverse-append (x ∷ []) xs))
+    (All-append P (reverse xs) (x ∷ []) (All-reverse P xs (All-tail P x xs h)) (All-cons P x [] (All-head P x xs h) (All-nil P)))
 
 pub ordered-pieces : (b : Bool) (ts : List Tree) → All IsPiece ts → All IsPiece (in_reading_order b ts)
 ordered-pieces true ts h = All-reverse IsPiece ts h

@@ -1,2 +1,5 @@
 pub mod ComesLemmas
+pub mod ExitLemmas
+pub mod RepeatLemmas
+pub mod RunLemmas
 pub mod WordLemmas

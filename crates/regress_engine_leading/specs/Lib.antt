@@ -1,1 +1,3 @@
+pub mod Exits
 pub mod Known
+pub mod Repeating

@@ -21,6 +21,9 @@ use regress_engine_insn::Insn;
 use regress_engine_matchers::CharInput;
 use regress_engine_singles::{ToldBracket, is_assertion};
 
+/// So many instructions are looked at.
+pub(crate) const LOOKED_AT: usize = 8;
+
 /// The offset behind the character ahead of one, where a class matches that.
 #[inline(always)]
 pub(crate) fn class_ahead<Input: CharInput>(

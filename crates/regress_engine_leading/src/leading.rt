@@ -1,5 +1,6 @@
 //! What a program begins with: a class and a run of characters, or what is asked of the place.
 ghost use Rattle.std.specs.Prelude.{◌≡◌, ◌<◌, ℕ, true, false, IfSome};
+ghost use Rattle.regress_meaning.specs.Steps.{at_boundary};
 ghost use Rattle.regress_meaning.specs.Meaning.{Forward as ahead};
 ghost use Rattle.regress_engine_insn.specs.Instructions.{Program, Stands, boundary, line_start};
 ghost use Rattle.regress_engine_insn.specs.InsnViews.{instruction};
@@ -12,7 +13,9 @@ ghost use Rattle.regress_engine_singles.specs.Failing.{IsDead};
 ghost use Rattle.regress_engine_singles.specs.Passed.{PassesOver};
 ghost use Rattle.regress_engine_leading.specs.Known.{BeginsAt, IsKnown};
 
-use crate::failing::{class_ahead, fails};
+use crate::failing::{LOOKED_AT, class_ahead, fails};
+use crate::repeated::passed_repeated;
+use crate::ways::passed_ways;
 use regress_engine_advance::{
     ascii_boundary, beside, boundary, holds_at, is_dead, is_dead_ahead, is_word, word_beside,
 };
@@ -22,9 +25,6 @@ use regress_engine_insn::Insn;
 use regress_engine_matchers::{CharInput, CharProperties};
 use regress_engine_singles::{as_far_ahead, is_assertion, is_possessive, takes_one};
 use regress_front_tables::is_ascii_word;
-
-/// So many instructions behind a run are looked at.
-const LOOKED_AT: usize = 8;
 
 /// What is known of a place before a run begins there.
 #[derive(Debug, Clone, Copy)]
@@ -163,6 +163,29 @@ fn at_word<Input: CharInput>(
     Beginning::of((start < at).then_some(at))
 }
 
+/// What is known of the start where a word begins or ends there, as the program asks first: the run is behind that, where it may not ask
+/// for a word twice that stands there once.
+#[inline(always)]
+fn behind_edge<Input: CharInput>(program: &CompiledRegex, input: &Input, start: usize) -> Beginning
+    requires suits { Suits (program_of program.now) (Input.view input.now) }
+    requires place { IsAtPlace (reading_of (Input.view input.now)) start }
+    requires first { Stands (program_of program.now) 0 (boundary false false) }
+    requires edge { at_boundary (input_of (Input.view input.now)) false start ≡ true }
+    ensures { IsKnown (program_of program.now) (Input.view input.now) start result }
+{
+    let insns = program.insns();
+    if insns.len() < 10 {
+        return Beginning::At(1);
+    }
+    match &insns[9] {
+        Insn::BackRef { .. } => match passed_repeated(program, input, start) {
+            Some(past) => Beginning::Passed(past),
+            None => Beginning::At(1),
+        },
+        _ => Beginning::At(1),
+    }
+}
+
 /// The same where case is not ignored in Unicode mode. A run begins mostly where a word begins between characters of ASCII, and
 /// that is seen at once.
 #[inline(always)]
@@ -178,7 +201,7 @@ fn at_plain_word<Input: CharInput>(
 {
     if let Some(edge) = ascii_boundary(input, start) {
         if edge {
-            return Beginning::At(1);
+            return behind_edge(program, input, start);
         }
     }
     at_word(program, input, start, false)
@@ -378,6 +401,7 @@ pub fn known_at<Input: CharInput>(program: &CompiledRegex, input: &Input, start:
         Insn::WordBoundary { invert: false } => at_plain_word(program, input, start),
         Insn::WordBoundaryUnicodeICase { invert: false } => at_word(program, input, start, true),
         Insn::StartOfLine { multiline: true } => at_line(program, input, &insns[0], start),
+        Insn::Alt { .. } => Beginning::of(passed_ways(program, input, start)),
         insn => {
             if is_assertion(insn) {
                 return Beginning::of(passed_one(program, input, start));

@@ -3,5 +3,7 @@
 
 mod failing;
 mod leading;
+mod repeated;
+mod ways;
 
 pub use leading::{Beginning, known_at};

@@ -26,6 +26,7 @@ takes_some i = is_taking i
 -- an instruction takes the character ahead, where that is one of some
 abbrev pub takes_one : Instruction → Bool
 takes_one (code.byte_set cs) = true
+takes_one (code.char_set cs) = true
 takes_one i = is_class i
 
 -- all that an instruction takes begins with a byte, or is this character of ASCII alone

@@ -87,7 +87,7 @@ pub fn takes_some(insn: &Insn) -> bool
         )
 }
 
-/// Whether an instruction takes one character where that is in a set of bytes or in a class.
+/// Whether an instruction takes one character where that is in a set or in a class.
 ///
 /// ```rust
 /// let one = takes_one(&Insn::ByteSet2(ByteArraySet(*b"ab"))); // true
@@ -99,6 +99,6 @@ pub fn takes_one(insn: &Insn) -> bool
     is_class(insn)
         || matches!(
             insn,
-            Insn::ByteSet2(_) | Insn::ByteSet3(_) | Insn::ByteSet4(_)
+            Insn::CharSet(_) | Insn::ByteSet2(_) | Insn::ByteSet3(_) | Insn::ByteSet4(_)
         )
 }

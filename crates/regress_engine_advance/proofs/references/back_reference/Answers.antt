@@ -6,8 +6,8 @@ use Rattle.regress_engine_search.specs.StateViews.{marks_of}
 use Rattle.regress_engine_advance.proofs.ReferenceLemmas.{other-reference}
 use Rattle.regress_engine_advance.proofs.references.back_reference.Goals as goal
 
-pub returns-then-is_other : goal.returns-then-is_other
-returns-then-is_other g c =
+pub returns-then-differ_ahead : goal.returns-then-differ_ahead
+returns-then-differ_ahead g c =
     let v = g.Input.InputIndexer.view c.args.input.now in
     let start = c.in-Some-Some.start in
     let end = c.in-Some-Some.end in
@@ -15,4 +15,4 @@ returns-then-is_other g c =
     let places = subst (λ r. IfSome r (AreAtPlaces (reading_of v))) range c.requires.range in
     rw (c.if-forward.true, c.if-not-icase.true, range)
     (other-reference v (g.met.Input.InputIndexer.are_of_kind c.args.input.now) start end c.args.offset c.if-start-end.true places.0 places.1 c.requires.place
-    (c.is_other.ensures c.if-is_other.true))
+    (c.differ_ahead.ensures c.if-differ_ahead.true))

@@ -3,15 +3,17 @@ use Rattle.regress_meaning.specs.Meaning.{Forward}
 use Rattle.regress_engine_insn.specs.Instructions.{Instruction, Program, Stands}
 use Rattle.regress_engine_insn.specs.Instructions as code
 use Rattle.regress_engine_code.specs.Standing.{program_of}
-use Rattle.regress_engine_input.specs.Views.{View, reading_of}
+use Rattle.regress_engine_input.specs.Views.{View, input_of, reading_of}
 use Rattle.regress_engine_runs.specs.Meets.{IsAtPlace}
 use Rattle.regress_engine_insn.specs.declared.insn.Insn.TheVariants.{Goal}
 use Rattle.regress_engine_search.proofs.InsnLemmas.{stands-as}
 use Rattle.regress_engine_search.proofs.PlaceLemmas.{can-read}
-use Rattle.regress_engine_singles.specs.Sparing.{IsDeadBefore}
-use Rattle.regress_engine_singles.proofs.LeadingLemmas.{class-fits, class-place, class-takes, passes-over}
+use Rattle.regress_engine_singles.specs.Failing.{IsDead}
+use Rattle.regress_engine_singles.proofs.LeadingLemmas.{class-fits, class-next, class-place, class-takes, one-dead}
 use Rattle.regress_engine_advance.proofs.ReadLemmas.{none-is, stands-read}
 use Rattle.regress_engine_advance.proofs.FarLemmas.{far-place}
+use Rattle.regress_engine_leading.specs.Exits.{IsLoop}
+use Rattle.regress_engine_leading.proofs.RunLemmas.{class-one, passes-over, possessive-ends}
 use Rattle.regress_engine_leading.proofs.leading.passed_from.Goals as goal
 
 -- the address of the loop's body, told otherwise
@@ -23,8 +25,8 @@ body-behind : (program : Program) (at : ℕ) (j : Instruction) → Stands progra
 body-behind program at j here = let e : at + 2 ≡ at + 1 + 1 = omega arith in subst (λ a. Stands program a j) e here
 
 -- and what is behind it
-behind-loop : (program : Program) (v : View) (at : ℕ) (j : Instruction) → IsDeadBefore program v j (at + 1 + 2) → IsDeadBefore program v j (at + 3)
-behind-loop program v at j spares = let e : at + 1 + 2 ≡ at + 3 = omega arith in subst (λ a. IsDeadBefore program v j a) e spares
+dead-behind : (program : Program) (v : View) (at o : ℕ) → IsDead program (input_of v) Forward (at + 3) o → IsDead program (input_of v) Forward (at + 1 + 2) o
+dead-behind program v at o dead = let e : at + 3 ≡ at + 1 + 2 = omega arith in subst (λ a. IsDead program (input_of v) Forward a o) e dead
 
 -- what the loop is
 loop-is : (program : Program) (at least most : ℕ) (greedy : Bool) → Stands program at (code.single_loop least most greedy) → least ≡ 0 → greedy ≡ true → Stands program at (code.single_loop 0 most true)
@@ -130,15 +132,18 @@ returns g c = λ lead.
     let loop = stands-as program (c.args.at + 1) _ _ c.in-Loop1CharBody.is (stands-read c.insns-insns.result.now c.args.program.now.insns.items (c.args.at + 1) Goal c.insns-insns.ensures (omega (arith, within))) in
     let few = c.if-min_iters-gt0.false in
     let spares = c.is_possessive.ensures v all c.requires.suits c.if-not-is_possessive.false _ (body-behind program c.args.at _ body) (class-takes _ body_class) in
-    passes-over program v all c.requires.suits c.args.at c.in-Loop1CharBody.max_iters c.in_ok-far.far _ _
-    (record {
-      first = first;
-      first_class = first_class;
-      loop = loop-is program (c.args.at + 1) _ _ _ loop (omega (arith, few)) c.if-not-greedy.false;
-      body = body;
-      body_class = body_class;
-      stops = λ groups. none-is _ (sym c.is_some.ensures ∙ c.if-is_some.false) ∙ c.class_ahead-2.ensures groups;
-      behind = c.fails.ensures c.if-not-fails.false;
-      apart = behind-loop program v c.args.at _ spares;
-    })
-    lead c.args.start c.in_ok-near.near c.requires.place (λ groups. sym (c.class_ahead.ensures groups) ∙ c.in_ok-near.was) (λ groups. sym (c.in_ok-far.ensures groups))
+    let most = c.in-Loop1CharBody.max_iters in
+    let far = c.in_ok-far.far in
+    let near = c.in_ok-near.near in
+    let around : IsLoop program (c.args.at + 1) most _ = record {
+      here = loop-is program (c.args.at + 1) _ _ _ loop (omega (arith, few)) c.if-not-greedy.false;
+      body = body-behind program c.args.at _ body;
+      class = body_class;
+    } in
+    let (ch, next) = class-next program v _ first_class [] c.args.start near (sym (c.class_ahead.ensures []) ∙ c.in_ok-near.was) in
+    passes-over program v all c.requires.suits (c.args.at + 1) most far _ around
+    (λ groups. none-is _ (sym c.is_some.ensures ∙ c.if-is_some.false) ∙ c.class_ahead-2.ensures groups)
+    (λ o d q also dead. lead o (one-dead program v c.args.at _ first (class-one _ first_class) o d q also dead))
+    c.args.start ch near c.requires.place next
+    (possessive-ends program v all c.requires.suits (c.args.at + 1) most near far _ around inside spares
+    (dead-behind program v c.args.at far (c.fails.ensures c.if-not-fails.false)) (λ groups. sym (c.in_ok-far.ensures groups)))
