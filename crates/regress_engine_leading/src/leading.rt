@@ -147,7 +147,10 @@ fn at_word<Input: CharInput>(
     ensures { IsKnown (program_of program.now) (Input.view input.now) start result }
 {
     if boundary(input, folded, start) {
-        return Beginning::At(1);
+        if folded {
+            return Beginning::At(1);
+        }
+        return behind_edge(program, input, start);
     }
     let was = word_beside(input, folded, false, start);
     let mut at = start;

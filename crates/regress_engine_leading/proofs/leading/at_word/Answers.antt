@@ -1,5 +1,8 @@
 use mathlib.Core.Bool.{beq}
-use Rattle.std.proofs.Common.{◌≡◌, Bool, true, false, not, refl, sym, ◌∙◌}
+use Rattle.std.proofs.Common.{◌≡◌, Bool, true, false, not, refl, sym, subst, ◌∙◌}
+use Rattle.regress_meaning.specs.Steps.{at_boundary}
+use Rattle.regress_engine_insn.specs.Instructions.{Stands}
+use Rattle.regress_engine_insn.specs.Instructions as code
 use Rattle.regress_engine_code.specs.Standing.{program_of}
 use Rattle.regress_engine_input.specs.Views.{input_of}
 use Rattle.regress_engine_search.proofs.PlaceLemmas.{can-read}
@@ -18,8 +21,15 @@ alike false false e = refl
 pub boundary-requires : goal.boundary-requires
 boundary-requires g c = can-read (g.Input.InputIndexer.view c.args.input.now) (g.met.Input.InputIndexer.are_of_kind c.args.input.now) c.args.start c.requires.place
 
-pub returns-then-boundary : goal.returns-then-boundary
-returns-then-boundary g c =
+pub behind_edge-requires-clause-first : goal.behind_edge-requires-clause-first
+behind_edge-requires-clause-first g c = subst (λ b. Stands (program_of c.args.program.now) 0 (code.boundary false b)) c.if-folded.false c.requires.first
+
+pub behind_edge-requires-clause-edge : goal.behind_edge-requires-clause-edge
+behind_edge-requires-clause-edge g c =
+    subst (λ b. at_boundary (input_of (g.Input.InputIndexer.view c.args.input.now)) b c.args.start ≡ true) c.if-folded.false (sym c.boundary.ensures ∙ c.if-boundary.true)
+
+pub returns-then-folded : goal.returns-then-folded
+returns-then-folded g c =
     comes-boundary (program_of c.args.program.now) (input_of (g.Input.InputIndexer.view c.args.input.now)) c.args.folded c.args.start c.requires.first
     (sym c.boundary.ensures ∙ c.if-boundary.true)
 
