@@ -1,41 +1,37 @@
 -- Lines that are passed over: none of them is selected.
-use Rattle.std.proofs.Common.{◌≡◌, ℕ, zero, suc, ◌+◌, ◌-◌, ◌<◌, ◌≢◌, Bool, true, false, ◌&&◌, ◌||◌, List, [], ◌∷◌, ◌++◌, length, take, drop, get_or, sum_by, Option, Some, None, IfSome, option_copied, Bor, not, refl, sym, ap, ap₂, subst, ◌∙◌, add-zero, length-append, length-take, length-drop, arith}
+use Rattle.std.proofs.Common.{◌≡◌, ℕ, zero, suc, ◌+◌, ◌-◌, ◌<◌, Bool, true, false, ◌&&◌, ◌||◌, List, [], ◌∷◌, ◌++◌, length, drop, get_or, sum_by, All, Option, not, refl, sym, ap, ap₂, subst, ◌∙◌, add-zero, length-append, arith}
 use Rattle.std.specs.Prelude.{nat_lt, flat_map, codes, if◌then◌else◌}
 use Rattle.std.proofs.lemmas.Bool.{lt-ltb, le-ltb}
 use Rattle.std.proofs.lemmas.List.{drop_all}
 use Rattle.std.proofs.lemmas.List.Elements.{All-head, All-tail}
 use Rattle.std.proofs.lemmas.List.Sums.{sum_by-cons}
-use Rattle.memchr.proofs.lemmas.MatchLemmas.{OccursAt-from_part}
 use Rattle.esgrep_rows.specs.declared.options.Options.{Options}
-use Rattle.esgrep_rows.specs.Lines.{Line, lines, numbered, body, tail, byte_of, StandNowhere, AreWithout}
+use Rattle.esgrep_rows.specs.Lines.{Line, lines, numbered, body, tail, byte_of, EndsBefore}
 use Rattle.esgrep_rows.specs.Found.{Found, Seen, rewritten}
 use Rattle.esgrep_rows.specs.Views.{puts_matches}
 use Rattle.esgrep_rows.specs.Rows.{Progress, rows, is_selected, held_back, left_out, following, found_at_line, before_row, selected_row, near_row, match_row, line_row, front, name_field, number_field}
 use Rattle.esgrep_rows.proofs.CuttingLemmas.{lines-size, lines-some}
-use Rattle.esgrep_lines.specs.Needed.{AreNeeded, AreUnselected}
+use Rattle.esgrep_lines.specs.Passing.{AreUnselected}
 use Rattle.esgrep_lines.specs.Output.{count_from}
 use Rattle.esgrep_lines.proofs.CountLemmas.{count-one, count-zero}
 use Rattle.esgrep_lines.proofs.StepLemmas.{rows-held}
 use Rattle.esgrep_lines.proofs.RowsLemmas.{numbered-line}
-
--- what holds of a value, if any, holds of what is borrowed of it
-pub borrowed : {X : Type 0} (P : X → Type 0) (o : Option (Bor X)) (v : Option X) → option_copied o ≡ v → IfSome v P → IfSome o (λ b. P b.now)
-borrowed P None v is holds = tt
-borrowed P (Some b) v is holds = subst (λ v. IfSome v P) (sym is) holds
 
 and-false : (a b : Bool) → b ≡ false → (a && b) ≡ false
 and-false true b e = e
 and-false false b e = refl
 
 -- a line in which nothing is found is not selected
-pub nothing-unselected : (o : Options) (seen : Seen) (start : ℕ) (line : List ℕ) → o.invert ≡ false → seen.find start (body o.ending line) ≡ [] → is_selected o seen start line ≡ false
+nothing-unselected : (o : Options) (seen : Seen) (start : ℕ) (line : List ℕ) → o.invert ≡ false → seen.find start (body o.ending line) ≡ [] → is_selected o seen start line ≡ false
 nothing-unselected o seen start line plain none =
     let has : List Found → Bool = λ founds. nat_lt 0 (length founds) in
     and-false (not (seen.is_given_up start)) _ (ap₂ (λ (b : Bool) (founds : List Found). if b then not (has founds) else has founds) plain none)
 
--- lines without bytes that are needed are not selected
-pub without-unselected : (o : Options) (seen : Seen) (bytes : List ℕ) (lines : List (List ℕ)) → AreNeeded o seen bytes → AreWithout o.ending bytes lines → AreUnselected o seen lines
-without-unselected o seen bytes lines needed without = λ k d below start. let h = without k d below in needed start (get_or lines k d) h.0 h.1
+-- lines in front of a candidate are not selected
+pub before-unselected : (o : Options) (seen : Seen) (text : List ℕ) (at : Option ℕ) (lines : List (List ℕ)) → o.invert ≡ false
+    → ((start : ℕ) (part : List ℕ) → EndsBefore text at part → seen.find start part ≡ []) → All (λ line. EndsBefore text at (body o.ending line)) lines → AreUnselected o seen lines
+before-unselected o seen text at lines plain none before = λ k d below start.
+    nothing-unselected o seen start (get_or lines k d) plain (none start (body o.ending (get_or lines k d)) (before k d below))
 
 unchosen : (b : Bool) (x y : ℕ) → b ≡ false → (if b then x else y) ≡ y
 unchosen true x y e = absurd (cc e)
@@ -186,11 +182,3 @@ rows-passed o seen name end most number start count text passed rest p cut none 
         let same : count ≡ length (lines end passed) = is ∙ ap (λ b. if b then length (lines end passed) else 0) e in
         ap (λ n. rows o seen name most (left_out p) (numbered (number + n) (start + length passed) (lines end rest))) same ∙ counted
     by_numbers false e = rows-unnumbered o seen name most (number + count) (number + length (lines end passed)) (start + length passed) (left_out p) (lines end rest) before e ∙ counted
-
--- bytes that stand nowhere in a text are no part of it
-pub nowhere-part : (bytes text : List ℕ) → StandNowhere bytes text → (at : ℕ) → take (length bytes) (drop at text) ≢ bytes
-nowhere-part [] text none at is = none 0 (record { fits = omega arith; reads = λ j below. absurd (omega (arith, below)) })
-nowhere-part (b ∷ bytes) text none at is =
-    let all : List ℕ = b ∷ bytes in
-    let whole : length (take (length all) (drop at text)) ≡ length all = ap length is in
-    none at (OccursAt-from_part text all at (omega (arith, whole, length-take (length all) (drop at text), length-drop at text)) is)

@@ -1,4 +1,4 @@
-pub mod Needed
+pub mod Passing
 pub mod Output
 pub mod Putting
 pub mod Props

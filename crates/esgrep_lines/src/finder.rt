@@ -1,7 +1,6 @@
 //! What a search of a line finds.
-ghost use Rattle.std.specs.Prelude.{◌≡◌, ◌≢◌, ◌↔◌, ℕ, [], List, Option, map, IsTrue, IfOk, IfSome, IsErrOf, OnOk};
-ghost use Rattle.std.specs.Str.{IsUtf8};
-ghost use Rattle.esgrep_rows.specs.Lines.{StandNowhere};
+ghost use Rattle.std.specs.Prelude.{◌≡◌, ◌≢◌, ◌≤◌, ◌↔◌, ℕ, [], List, Option, length, map, IsTrue, IfOk, IfSome, IsErrOf, OnOk};
+ghost use Rattle.esgrep_rows.specs.Lines.{EndsBefore};
 ghost use Rattle.esgrep_rows.specs.Found.{Find, found_of, LieInOrder};
 
 use regress_front_core::Error;
@@ -90,12 +89,14 @@ pub trait Finder {
         ensures order { OnOk result (LieInOrder text.now 0 founds.new.items) }
         ensures given { IsErrOf result FindError.GivenUp → gives_up self.now text.now };
 
-    /// Bytes that stand in each text in which there is a match, where such are known.
+    /// An offset of a text in front of which no match lies: nothing is found in a part of the text that ends there or before, unless
+    /// the offset is 0. `None` where nothing is found in any part.
     ///
     /// ```rust
-    /// let bytes = finder.literal(); // for `harbour (\w+)` those of `harbour `
+    /// let at = finder.candidate("to the harbour"); // for `har\w+` at most `Some(7)`, for `x` at most `None`
     /// ```
-    fn literal(&self) -> Option<&[u8]>
-        ensures needed { (template : Option (List ℕ)) → (find : Find) → finds self.now template find → (start : ℕ) → (text : List ℕ) → IsUtf8 text →
-            IfSome result (λ bytes. StandNowhere bytes.now text → find start text ≡ []) };
+    fn candidate(&self, text: &str) -> Option<usize>
+        ensures inside { IfSome result (λ at. at ≤ length text.now) }
+        ensures passed { (template : Option (List ℕ)) → (find : Find) → finds self.now template find → (start : ℕ) → (part : List ℕ) →
+            EndsBefore text.now result part → find start part ≡ [] };
 }

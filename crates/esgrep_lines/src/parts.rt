@@ -117,8 +117,8 @@ impl Finder for Parts<'_> {
         Ok(())
     }
 
-    fn literal(&self) -> Option<&[u8]> {
-        None
+    fn candidate(&self, _text: &str) -> Option<usize> {
+        Some(0)
     }
 }
 

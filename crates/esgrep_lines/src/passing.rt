@@ -1,48 +1,32 @@
-//! Lines that need no search, since they lack bytes that each match holds.
-ghost use Rattle.std.specs.Prelude.{◌≡◌, ◌+◌, ◌≤◌, ◌++◌, ℕ, List, Option, length, vec_len, IfSome, if◌then◌else◌};
+//! Lines that need no search, since no match begins in them.
+ghost use Rattle.std.specs.Prelude.{◌≡◌, ◌+◌, ◌≤◌, ◌++◌, ℕ, List, Option, length, vec_len, if◌then◌else◌};
 ghost use Rattle.esgrep_rows.specs.Lines.{byte_of, lines, numbered};
 ghost use Rattle.esgrep_rows.specs.Found.{Seen};
 ghost use Rattle.esgrep_rows.specs.Rows as row_words;
 ghost use Rattle.esgrep_rows.specs.Values.{progress_of};
-ghost use Rattle.esgrep_lines.specs.Needed.{AreNeeded, AreUnselected};
+ghost use Rattle.esgrep_lines.specs.Passing.{AreUnselected};
 ghost use Rattle.esgrep_lines.specs.Output.{count_from};
 ghost use Rattle.esgrep_lines.specs.GivenUp.{IsBehind};
 
 use crate::finder::Finder;
-use esgrep_rows::{Options, Progress, Rows, count_lines, lines_without};
-use memchr::memmem;
-
-/// A search for bytes that each line holds which is selected, where such are known.
-pub(crate) fn needle_of<'f, F: Finder>(
-    finder: &'f F,
-    options: &Options,
-) -> Option<memmem::Finder<'f>>
-    ensures { (template : Option (List ℕ)) → (seen : Seen) → F.finds finder.now template seen.find → IfSome result (AreNeeded options.now seen) }
-{
-    if options.invert {
-        return None;
-    }
-    match finder.literal() {
-        Some(bytes) => Some(memmem::Finder::new(bytes)),
-        None => None,
-    }
-}
+use esgrep_rows::{Options, Progress, Rows, count_lines, lines_before};
 
 /// The lines in front that are known not to be selected, where any may be, and the text behind them.
-pub(crate) fn pass<'t>(
-    needle: Option<&memmem::Finder<'_>>,
+pub(crate) fn pass<'t, F: Finder>(
+    finder: &F,
     options: &Options,
     may_select: bool,
     text: &'t str,
 ) -> (&'t str, &'t str)
     ensures lines { lines (byte_of options.now.ending) text.now ≡ lines (byte_of options.now.ending) result.0.now ++ lines (byte_of options.now.ending) result.1.now }
     ensures whole { text.now ≡ result.0.now ++ result.1.now }
-    ensures unselected { (seen : Seen) → IfSome needle.entry (λ bytes. AreNeeded options.now seen bytes.now) →
+    ensures unselected { (template : Option (List ℕ)) → (seen : Seen) → F.finds finder.now template seen.find →
         AreUnselected options.now seen (lines (byte_of options.now.ending) result.0.now) }
 {
-    match needle {
-        Some(needle) if may_select => lines_without(text, needle, options.ending),
-        _ => ("", text),
+    if may_select && !options.invert {
+        lines_before(text, finder.candidate(text), options.ending)
+    } else {
+        ("", text)
     }
 }
 
@@ -72,8 +56,8 @@ pub(crate) struct Passed<'t> {
 /// Passes over the lines in front that are known not to be selected, where none of them is put out.
 ///
 /// Asks that no more lines are held back than stand before a selected one.
-pub(crate) fn pass_over<'t>(
-    needle: Option<&memmem::Finder<'_>>,
+pub(crate) fn pass_over<'t, F: Finder>(
+    finder: &F,
     rows: Rows<'_>,
     may_select: bool,
     progress: &mut Progress<'_>,
@@ -84,10 +68,10 @@ pub(crate) fn pass_over<'t>(
     ensures size { result.bytes + length result.rest.now ≡ length text.now }
     ensures count { result.lines ≤ result.bytes }
     ensures lines { IsBehind rows.entry.options.ending text.now result.bytes result.rest.now }
-    ensures rows { (seen : Seen) → IfSome needle.entry (λ bytes. AreNeeded rows.entry.options seen bytes.now) → (name : List ℕ) → (most number start : ℕ) →
+    ensures rows { (template : Option (List ℕ)) → (seen : Seen) → F.finds finder.now template seen.find → (name : List ℕ) → (most number start : ℕ) →
         row_words.rows rows.entry.options seen name most (progress_of progress.new) (numbered (number + result.lines) (start + result.bytes) (lines (byte_of rows.entry.options.ending) result.rest.now))
         ≡ row_words.rows rows.entry.options seen name most (progress_of progress.old) (numbered number start (lines (byte_of rows.entry.options.ending) text.now)) }
-    ensures counted { (seen : Seen) → IfSome needle.entry (λ bytes. AreNeeded rows.entry.options seen bytes.now) → (most start : ℕ) →
+    ensures counted { (template : Option (List ℕ)) → (seen : Seen) → F.finds finder.now template seen.find → (most start : ℕ) →
         count_from rows.entry.options seen most (start + result.bytes) (lines (byte_of rows.entry.options.ending) result.rest.now)
         ≡ count_from rows.entry.options seen most start (lines (byte_of rows.entry.options.ending) text.now) }
 {
@@ -99,7 +83,7 @@ pub(crate) fn pass_over<'t>(
             rest: text,
         };
     }
-    let (passed, rest) = pass(needle, options, may_select, text);
+    let (passed, rest) = pass(finder, options, may_select, text);
     if passed.is_empty() {
         return Passed {
             lines: 0,

@@ -14,7 +14,7 @@ ghost use Rattle.esgrep_lines.specs.GivenUp.{AreGivenUp, Notes, TellsAt};
 
 use crate::finder::{FindError, Finder};
 use crate::output::{Output, Unwritten};
-use crate::passing::{needle_of, pass, pass_over};
+use crate::passing::{pass, pass_over};
 use esgrep_rows::{Line, Mode, Options, Progress, Rows, Shown, body_of, first_line};
 use regress_front_core::Error;
 use regress_match::Match;
@@ -160,8 +160,6 @@ fn count_selected<F: Finder>(
         IfOk result (λ count. count ≡ count_from options.now (but_for given_up.new.items find) most 0 (lines (byte_of options.now.ending) text.now)) }
     ensures given { AreGivenUp (F.gives_up finder.now) options.now.ending text.now given_up.new.items }
 {
-    let literal = needle_of(finder, options);
-    let needle = literal.as_ref();
     let mut count = 0;
     let mut start = 0;
     let mut rest = text;
@@ -169,7 +167,7 @@ fn count_selected<F: Finder>(
         let (line, behind) = first_line(rest, options.ending);
         let selected = is_selected(finder, options, start, line, given_up)?;
         count += usize::from(selected);
-        let (passed, further) = pass(needle, options, count < most, behind);
+        let (passed, further) = pass(finder, options, count < most, behind);
         start += line.len() + passed.len();
         rest = further;
     }
@@ -346,8 +344,6 @@ fn put_rows<F: Finder, W: Write + Drop>(
     ensures failure { (has_failed output.new ≡ true) ↔ IsErrOf result SearchError.Write }
 {
     let options = rows.options;
-    let literal = needle_of(finder, &options);
-    let needle = literal.as_ref();
     let mut row = String::new(alloc);
     let mut founds = Vec::new(alloc);
     let mut progress = Progress::new(alloc);
@@ -377,7 +373,7 @@ fn put_rows<F: Finder, W: Write + Drop>(
         output.put(row.as_bytes())?;
         count += usize::from(selected);
         let may_select = count < rows.options.most;
-        let passed = pass_over(needle, rows, may_select, &mut progress, behind);
+        let passed = pass_over(finder, rows, may_select, &mut progress, behind);
         number += 1 + passed.lines;
         start += first.len() + passed.bytes;
         rest = passed.rest;

@@ -1,14 +1,14 @@
--- Lines that hold some bytes nowhere.
-use Rattle.std.proofs.Common.{◌≡◌, ℕ, zero, suc, ◌+◌, ◌-◌, ◌<◌, ◌≤◌, ◌⊎◌, inl, inr, ⊎_elim, Bool, true, false, ◌&&◌, List, [], ◌∷◌, length, take, drop, get_or, slice_index, Some, None, refl, sym, ap, subst, ◌∙◌, arith, eqb, add-one, length-take, length-drop, get_or-take, get_or-drop}
+-- Lines in front of an offset.
+use Rattle.std.proofs.Common.{◌≡◌, ℕ, zero, suc, ◌+◌, ◌-◌, ◌<◌, ◌≤◌, ◌⊎◌, inl, inr, ⊎_elim, Bool, true, false, ◌&&◌, List, [], ◌∷◌, ◌++◌, length, take, drop, get_or, slice_index, All, Option, Some, None, IfSome, refl, sym, ap, subst, ◌∙◌, arith, eqb, add-one, append-nil, append_assoc, length-append, length-take, length-drop, get_or-take}
 use Rattle.std.specs.Prelude.{nat_lt}
 use Rattle.std.specs.Str.{IsUtf8, IsCharBoundary}
 use Rattle.std.proofs.lemmas.Bool.{eqb-true, ltb-true}
+use Rattle.std.proofs.lemmas.List.{take-append-drop}
 use Rattle.std.proofs.lemmas.List.Elements.{All-nil, All-cons}
 use Rattle.std.proofs.lemmas.Str.{IsUtf8-take, IsUtf8-drop, IsCharBoundary-end, IsCharBoundary-before_ascii, IsCharBoundary-after_ascii}
-use Rattle.memchr.specs.Find.{OccursAt, FindsNeedle}
 use Rattle.esgrep_rows.specs.declared.ending.Ending.{Ending}
 use Rattle.esgrep_rows.specs.declared.ending.Ending.TheVariants.{Newline, Nul}
-use Rattle.esgrep_rows.specs.Lines.{lines, in_front, is_last, body, body_len, byte_of, StandNowhere, AreWithout}
+use Rattle.esgrep_rows.specs.Lines.{lines, in_front, is_last, body, body_len, byte_of, EndsBefore}
 use Rattle.esgrep_rows.proofs.LineLemmas.{lines-end, lines-more, lines-none}
 
 -- Where the first line of a text ends: at a byte that ends lines, or at the last byte.
@@ -92,66 +92,62 @@ body-boundary Nul line utf8 = by_last (is_last 0 line) refl
     by_last false e = rw e (IsCharBoundary-end line)
     by_last true e = rw e (last-boundary 0 line (omega arith) e).1
 
--- bytes that stand in a part of a text stand in it
-occurs-take : (bytes text : List ℕ) (n at : ℕ) → OccursAt (take n text) bytes at → OccursAt text bytes at
-occurs-take bytes text n at occurs = record {
-  fits = omega (arith, occurs.fits, length-take n text);
-  reads = λ j below. sym (get_or-take n text (at + j) 0 (omega (arith, occurs.fits, length-take n text, below))) ∙ occurs.reads j below;
-}
+-- what lies up to an offset, if there is one, and is not empty
+up_to : (at : Option ℕ) (all part : ℕ) → part ≤ all → 0 < all → IfSome at (λ end. all ≤ end) → IfSome at (λ end. (part ≤ end) × (0 < end))
+up_to None all part less some within = tt
+up_to (Some end) all part less some within = (omega (arith, less, within), omega (arith, some, within))
 
-pub nowhere-take : (bytes text : List ℕ) (n : ℕ) → StandNowhere bytes text → StandNowhere bytes (take n text)
-nowhere-take bytes text n none at occurs = none at (occurs-take bytes text n at occurs)
+fewer : (at : Option ℕ) (all part : ℕ) → part ≤ all → IfSome at (λ end. all ≤ end) → IfSome at (λ end. part ≤ end)
+fewer None all part less within = tt
+fewer (Some end) all part less within = omega (arith, less, within)
 
-nowhere-drop : (bytes text : List ℕ) (n : ℕ) → n ≤ length text → StandNowhere bytes text → StandNowhere bytes (drop n text)
-nowhere-drop bytes text n within none at occurs = none (n + at) (record {
-  fits = omega (arith, occurs.fits, length-drop n text, within);
-  reads = λ j below. let same : n + at + j ≡ n + (at + j) = omega arith in ap (slice_index text) same ∙ sym (get_or-drop n text (at + j) 0) ∙ occurs.reads j below;
-})
+-- what is searched of the lines of a part that ends at an offset or before it ends there or before it
+module _ (ending : Ending) (ascii : byte_of ending < 128) (whole : List ℕ) (at : Option ℕ) where
+  abbrev Passed : List ℕ → Type 0
+  Passed line = EndsBefore whole at (body ending line)
 
--- so they stand nowhere in what is searched of the lines of a text in which they stand nowhere
-without-lines : (ending : Ending) (bytes : List ℕ) → byte_of ending < 128 → (fuel : ℕ) (text : List ℕ) → length text ≤ fuel → IsUtf8 text → StandNowhere bytes text
-    → AreWithout ending bytes (lines (byte_of ending) text)
-without-lines ending bytes ascii fuel [] fits utf8 none = rw (lines-none (byte_of ending)) (All-nil (λ line. IsUtf8 (body ending line) × StandNowhere bytes (body ending line)))
-without-lines ending bytes ascii zero (b ∷ text) fits utf8 none = absurd (omega (arith, fits))
-without-lines ending bytes ascii (suc fuel) (b ∷ text) fits utf8 none =
-    let f = first_end (byte_of ending) b text in
-    let n : ℕ = suc f.at in
-    let all : List ℕ = b ∷ text in
-    let boundary = end-boundary (byte_of ending) all f ascii utf8 in
-    let line : List ℕ = take n all in
-    let utf8_line : IsUtf8 line = IsUtf8-take all n utf8 boundary in
-    let shorter : length (drop n all) ≤ fuel = omega (arith, fits, length-drop n all) in
-    let within : n ≤ length all = omega (arith, f.within) in
-    let here : IsUtf8 (body ending line) × StandNowhere bytes (body ending line) =
-    (IsUtf8-take line (body_len ending line) utf8_line (body-boundary ending line utf8_line), nowhere-take bytes line (body_len ending line) (nowhere-take bytes all n none)) in
-    let behind = without-lines ending bytes ascii fuel (drop n all) shorter (IsUtf8-drop all n utf8 boundary) (nowhere-drop bytes all n within none) in
-    subst (AreWithout ending bytes) (sym f.cut) (All-cons (λ line. IsUtf8 (body ending line) × StandNowhere bytes (body ending line)) line (lines (byte_of ending) (drop n all)) here behind)
+  lines-pass : (fuel : ℕ) (front text rest : List ℕ) → length text ≤ fuel → IsUtf8 text → whole ≡ front ++ text ++ rest → IfSome at (λ end. length front + length text ≤ end)
+      → All Passed (lines (byte_of ending) text)
+  lines-pass fuel front [] rest fits utf8 cut within = rw (lines-none (byte_of ending)) (All-nil Passed)
+  lines-pass zero front (b ∷ text) rest fits utf8 cut within = absurd (omega (arith, fits))
+  lines-pass (suc fuel) front (b ∷ text) rest fits utf8 cut within =
+      let f = first_end (byte_of ending) b text in
+      let n : ℕ = suc f.at in
+      let all : List ℕ = b ∷ text in
+      let boundary = end-boundary (byte_of ending) all f ascii utf8 in
+      let line : List ℕ = take n all in
+      let behind : List ℕ = drop n all in
+      let k : ℕ = body_len ending line in
+      let utf8_line : IsUtf8 line = IsUtf8-take all n utf8 boundary in
+      let reaches : n ≤ length all = omega (arith, f.within) in
+      let size : length line ≡ n = omega (arith, length-take n all, reaches) in
+      let part : List ℕ = take k line in
+      let few : length part ≤ n = omega (arith, length-take k line, size) in
+      let more : whole ≡ front ++ part ++ (drop k line ++ behind ++ rest) =
+      cut ∙ ap (λ t. front ++ t ++ rest) (sym (take-append-drop n all)) ∙ ap (λ t. front ++ (t ++ behind) ++ rest) (sym (take-append-drop k line)) ∙ simp append_assoc in
+      let here : Passed line = (
+        IsUtf8-take line k utf8_line (body-boundary ending line utf8_line),
+        front,
+        drop k line ++ behind ++ rest,
+        more,
+        up_to at (length front + length all) (length front + length part) (omega (arith, few, reaches)) (omega arith) within,
+      ) in
+      let next : whole ≡ (front ++ line) ++ behind ++ rest = cut ∙ ap (λ t. front ++ t ++ rest) (sym (take-append-drop n all)) ∙ simp append_assoc in
+      let shorter : length behind ≤ fuel = omega (arith, fits, length-drop n all) in
+      let left : length (front ++ line) + length behind ≤ length front + length all = omega (arith, length-append front line, size, length-drop n all, reaches) in
+      let others = lines-pass fuel (front ++ line) behind rest shorter (IsUtf8-drop all n utf8 boundary) next (fewer at (length front + length all) (length (front ++ line) + length behind) left within) in
+      subst (All Passed) (sym f.cut) (All-cons Passed line (lines (byte_of ending) behind) here others)
 
--- where bytes are found first, the lines in front do not hold them
-pub without-found : (ending : Ending) (bytes text hay : List ℕ) (at cut : ℕ) → byte_of ending < 128 → hay ≡ text → IsUtf8 text → IsCharBoundary text cut → cut ≤ at
-    → FindsNeedle hay bytes 0 (Some at) → AreWithout ending bytes (lines (byte_of ending) (take cut text))
-without-found ending bytes text hay at cut ascii over utf8 boundary before found =
-    let h = rw over at found in
-    ⊎_elim
-    (λ first. let none : cut ≡ 0 = omega (arith, first, before) in
-    rw (none, lines-none (byte_of ending)) (All-nil (λ line. IsUtf8 (body ending line) × StandNowhere bytes (body ending line))))
-    (λ later. without-lines ending bytes ascii (length (take cut text)) (take cut text) (omega arith) (IsUtf8-take text cut utf8 boundary)
-    (λ k occurs.
-    let whole = occurs-take bytes text cut k occurs in
-    let some : 0 < length bytes = ⊎_elim (λ none. absurd (h.0.before 0 (omega arith) later (record { fits = omega (arith, none); reads = λ j below. absurd (omega (arith, none, below)) }))) (λ is. is) (or_some (length bytes)) in
-    h.0.before k (omega arith) (omega (arith, occurs.fits, length-take cut text, before, some)) whole))
-    (or_some at)
-  where
-    or_some : (n : ℕ) → (n ≡ 0) ⊎ (0 < n)
-    or_some zero = inl refl
-    or_some (suc n) = inr (omega arith)
+-- the lines in front of an offset
+pub lines-before : (ending : Ending) (text : List ℕ) (at cut : ℕ) → byte_of ending < 128 → IsUtf8 text → IsCharBoundary text cut → cut ≤ at
+    → All (λ line. EndsBefore text (Some at) (body ending line)) (lines (byte_of ending) (take cut text))
+lines-before ending text at cut ascii utf8 boundary before =
+    lines-pass ending ascii text (Some at) (length (take cut text)) [] (take cut text) (drop cut text) (omega arith) (IsUtf8-take text cut utf8 boundary)
+    (sym (take-append-drop cut text)) (omega (arith, length-take cut text, before))
 
--- and where they are not found, no line does
-pub without-missed : (ending : Ending) (bytes text hay : List ℕ) → byte_of ending < 128 → hay ≡ text → IsUtf8 text → FindsNeedle hay bytes 0 None
-    → AreWithout ending bytes (lines (byte_of ending) text)
-without-missed ending bytes text hay ascii over utf8 missed =
-    let h = rw over at missed in
-    without-lines ending bytes ascii (length text) text (omega arith) utf8 (λ k occurs. h k (omega arith) (omega (arith, occurs.fits)) occurs)
+-- and without one all lines
+pub lines-all_before : (ending : Ending) (text : List ℕ) → byte_of ending < 128 → IsUtf8 text → All (λ line. EndsBefore text None (body ending line)) (lines (byte_of ending) text)
+lines-all_before ending text ascii utf8 = lines-pass ending ascii text None (length text) [] text [] (omega arith) utf8 (sym (append-nil text)) tt
 
 pub byte-ascii : (ending : Ending) → byte_of ending < 128
 byte-ascii Newline = omega arith

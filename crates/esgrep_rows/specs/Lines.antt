@@ -1,7 +1,6 @@
 -- The lines of a text.
-use Rattle.std.specs.Prelude.{ℕ, ◌+◌, ◌-◌, ◌==◌, ◌&&◌, Bool, nat_lt, List, [], ◌∷◌, ◌++◌, length, take, drop, slice_index, All, if◌then◌else◌}
+use Rattle.std.specs.Prelude.{◌≡◌, ℕ, ◌+◌, ◌-◌, ◌<◌, ◌≤◌, ◌==◌, ◌&&◌, Bool, nat_lt, List, [], ◌∷◌, ◌++◌, length, take, drop, slice_index, Option, IfSome, if◌then◌else◌}
 use Rattle.std.specs.Str.{IsUtf8}
-use Rattle.memchr.specs.Find.{OccursAt}
 use Rattle.esgrep_rows.specs.declared.ending.Ending.{Ending}
 use Rattle.esgrep_rows.specs.declared.ending.Ending.TheVariants.{Newline, Nul}
 
@@ -34,13 +33,10 @@ body_len Nul line = if is_last 0 line then length line - 1 else length line
 abbrev pub body : Ending → List ℕ → List ℕ
 body ending line = take (body_len ending line) line
 
--- some bytes stand nowhere in a text
-abbrev pub StandNowhere : List ℕ → List ℕ → Type 0
-StandNowhere bytes text = (at : ℕ) → ¬ OccursAt text bytes at
-
--- in what is searched of each of these lines, which is UTF-8, some bytes stand nowhere
-abbrev pub AreWithout : Ending → List ℕ → List (List ℕ) → Type 0
-AreWithout ending bytes lines = All (λ line. IsUtf8 (body ending line) × StandNowhere bytes (body ending line)) lines
+-- a part of a text, which is UTF-8, ends at an offset of the text, but not its first, or before; without an offset any part does
+abbrev pub EndsBefore : List ℕ → Option ℕ → List ℕ → Type 0
+EndsBefore text at part =
+    IsUtf8 part × (front : List ℕ) × (rest : List ℕ) × (text ≡ front ++ part ++ rest) × IfSome at (λ end. (length front + length part ≤ end) × (0 < end))
 
 -- how a line ends where it is put out: as in the text, and the last one with the byte too
 abbrev pub tail : Ending → List ℕ → List ℕ

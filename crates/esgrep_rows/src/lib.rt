@@ -12,7 +12,7 @@ mod rows;
 mod shown;
 
 pub use ending::Ending;
-pub use line::{Line, body_of, count_lines, first_line, lines_without};
+pub use line::{Line, body_of, count_lines, first_line, lines_before};
 pub use options::{Mode, Options};
 pub use progress::Progress;
 pub use rows::Rows;

@@ -1,10 +1,10 @@
 //! The lines of a text.
-ghost use Rattle.std.specs.Prelude.{◌≡◌, ◌≢◌, ◌<◌, ◌≤◌, ◌++◌, ◌∷◌, [], length, take, drop};
+ghost use Rattle.std.specs.Prelude.{◌≡◌, ◌≢◌, ◌<◌, ◌≤◌, ◌++◌, ◌∷◌, [], length, take, drop, All, IfSome};
 ghost use Rattle.std.specs.Str.{IsCharBoundary};
-ghost use Rattle.esgrep_rows.specs.Lines.{lines, byte_of, body_len, body, is_last, AreWithout};
+ghost use Rattle.esgrep_rows.specs.Lines.{lines, byte_of, body_len, body, is_last, EndsBefore};
 
 use crate::ending::Ending;
-use memchr::{memchr, memchr_iter, memmem, memrchr};
+use memchr::{memchr, memchr_iter, memrchr};
 
 /// A line of a text.
 #[derive(Clone, Copy, Debug)]
@@ -51,22 +51,21 @@ pub fn count_lines(text: &str, ending: Ending) -> usize
     }
 }
 
-/// The lines in front of the first line that holds what is looked for, and the text from that line on. Where it stands nowhere,
-/// these are all lines, and no text.
+/// The lines in front of the one in which an offset lies, and the text from that line on. Without an offset these are all lines, and
+/// no text.
+///
+/// Asks that the offset lies in the text, or at its end.
 ///
 /// ```rust
-/// let (passed, rest) = lines_without("a\nb\nxyz\n", &memmem::Finder::new(b"yz"), Ending::Newline); // `a\nb\n` and `xyz\n`
+/// let (passed, rest) = lines_before("a\nb\nxyz\n", Some(5), Ending::Newline); // `a\nb\n` and `xyz\n`
 /// ```
-pub fn lines_without<'t>(
-    text: &'t str,
-    needle: &memmem::Finder<'_>,
-    ending: Ending,
-) -> (&'t str, &'t str)
+pub fn lines_before(text: &str, at: Option<usize>, ending: Ending) -> (&str, &str)
+    requires { IfSome at (λ at. at ≤ length text.now) }
     ensures lines { lines (byte_of ending) text.now ≡ lines (byte_of ending) result.0.now ++ lines (byte_of ending) result.1.now }
     ensures whole { text.now ≡ result.0.now ++ result.1.now }
-    ensures without { AreWithout ending needle.now (lines (byte_of ending) result.0.now) }
+    ensures before { All (λ line. EndsBefore text.now at (body ending line)) (lines (byte_of ending) result.0.now) }
 {
-    match needle.find(text.as_bytes()) {
+    match at {
         Some(at) => text.split_at(line_start(text, at, ending)),
         None => (text, ""),
     }

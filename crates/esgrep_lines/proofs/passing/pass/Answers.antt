@@ -2,18 +2,18 @@ use Rattle.std.proofs.Common.{◌≡◌, ap, [], length, arith}
 use Rattle.esgrep_rows.specs.Lines.{byte_of, lines}
 use Rattle.esgrep_rows.proofs.LineLemmas.{lines-none}
 use Rattle.esgrep_rows.proofs.CuttingLemmas.{lines-whole}
-use Rattle.esgrep_lines.proofs.PassingLemmas.{without-unselected}
+use Rattle.esgrep_lines.proofs.PassingLemmas.{before-unselected}
 use Rattle.esgrep_lines.proofs.passing.pass.Goals as goal
 
-pub returns-in-Some-clause-unselected : goal.returns-in-Some-clause-unselected
-returns-in-Some-clause-unselected c = λ seen needed.
-    without-unselected c.args.options.now seen c.in-Some.needle.now (lines (byte_of c.args.options.now.ending) c.lines_without.result.0.now)
-    (rw c.in-Some.is at needed) c.lines_without.ensures.without
+pub returns-then-not-options-clause-unselected : goal.returns-then-not-options-clause-unselected
+returns-then-not-options-clause-unselected g c = λ template seen finds.
+    before-unselected c.args.options.now seen c.args.text.now c.candidate.result (lines (byte_of c.args.options.now.ending) c.lines_before.result.0.now)
+    c.if-not-options.true (c.candidate.ensures.passed template seen.find finds) c.lines_before.ensures.before
 
-pub returns-in_default-clause-lines : goal.returns-in_default-clause-lines
-returns-in_default-clause-lines c = lines-whole (byte_of c.args.options.now.ending) c.args.text.now
+pub returns-else-may_select-clause-lines : goal.returns-else-may_select-clause-lines
+returns-else-may_select-clause-lines g c = lines-whole (byte_of c.args.options.now.ending) c.args.text.now
 
-pub returns-in_default-clause-unselected : goal.returns-in_default-clause-unselected
-returns-in_default-clause-unselected c = λ seen needed k d below start.
+pub returns-else-may_select-clause-unselected : goal.returns-else-may_select-clause-unselected
+returns-else-may_select-clause-unselected g c = λ template seen finds k d below start.
     let none : length (lines (byte_of c.args.options.now.ending) []) ≡ 0 = ap length (lines-none (byte_of c.args.options.now.ending)) in
     absurd (omega (arith, none, below))

@@ -8,7 +8,7 @@ use Rattle.esgrep_lines.proofs.GivenUpLemmas.{behind-cut}
 use Rattle.esgrep_lines.proofs.passing.pass_over.Goals as goal
 
 pub returns-clause-rows : goal.returns-clause-rows
-returns-clause-rows c = λ seen needed name most number start.
+returns-clause-rows g c = λ template seen finds name most number start.
     let o = c.args.rows.options in
     let end = byte_of o.ending in
     let passed = c.pass.result.0.now in
@@ -19,12 +19,12 @@ returns-clause-rows c = λ seen needed name most number start.
     let bad : false ≡ true = sym c.if-is_empty.false ∙ c.is_empty.ensures ∙ ap (λ t. length t == 0) none in absurd (cc bad) in
     ap (λ (q : Progress). rows o seen name most q (numbered (number + c.told_lines.result) (start + length passed) (lines end rest))) c.leave_out.ensures.value
     ∙ rows-passed o seen name end most number start c.told_lines.result c.args.text.now passed rest (progress_of c.args.progress.now)
-    c.pass.ensures.lines (c.pass.ensures.unselected seen needed) before behind some c.told_lines.ensures.value
+    c.pass.ensures.lines (c.pass.ensures.unselected template seen finds) before behind some c.told_lines.ensures.value
 
 pub returns-clause-counted : goal.returns-clause-counted
-returns-clause-counted c = λ seen needed most start.
+returns-clause-counted g c = λ template seen finds most start.
     let o = c.args.rows.options in
-    count-passed o seen (byte_of o.ending) most start c.args.text.now c.pass.result.0.now c.pass.result.1.now c.pass.ensures.lines (c.pass.ensures.unselected seen needed)
+    count-passed o seen (byte_of o.ending) most start c.args.text.now c.pass.result.0.now c.pass.result.1.now c.pass.ensures.lines (c.pass.ensures.unselected template seen finds)
 
 pub returns-clause-lines : goal.returns-clause-lines
-returns-clause-lines c = behind-cut c.args.rows.options.ending c.args.text.now c.pass.result.0.now c.pass.result.1.now c.pass.ensures.lines
+returns-clause-lines g c = behind-cut c.args.rows.options.ending c.args.text.now c.pass.result.0.now c.pass.result.1.now c.pass.ensures.lines

@@ -6,11 +6,10 @@ use Rattle.std.proofs.lemmas.List.Elements.{All-nil}
 use Rattle.esgrep_rows.specs.Lines.{byte_of, lines, body}
 use Rattle.esgrep_rows.specs.Found.{but_for}
 use Rattle.esgrep_rows.specs.Rows.{is_selected}
-use Rattle.esgrep_lines.specs.Needed.{AreNeeded}
 use Rattle.esgrep_lines.specs.Output.{count_from}
 use Rattle.esgrep_lines.specs.GivenUp.{IsBehind}
 use Rattle.esgrep_lines.proofs.CountLemmas.{one-at-most, count-step, may-and, empty-text, count-over_text, count-over_most}
-use Rattle.esgrep_lines.proofs.PassingLemmas.{borrowed, count-passed}
+use Rattle.esgrep_lines.proofs.PassingLemmas.{count-passed}
 use Rattle.esgrep_lines.proofs.GivenUpLemmas.{noted-low, noted-before, noted-given, behind-none, behind-line, behind-passed, behind-cut, line-begins}
 use Rattle.esgrep_lines.proofs.searching.count_selected.Goals as goal
 use Rattle.esgrep_lines.proofs.searching.count_selected.Goals.{then-loop-count-test+else-not-is_empty, else-loop-count-test}
@@ -58,7 +57,7 @@ loop-count-preserved g c =
       given = noted-given (g.F.Finder.gives_up c.args.finder.now) o.ending c.args.text.now start first old new before.given
           (line-begins o.ending c.args.text.now c.loop-count.rest.now first behind start before.behind c.first_line.ensures.first) noted;
       counted = λ template seen finds tells.
-          let none = c.pass.ensures.unselected seen (borrowed (AreNeeded o seen) c.as_ref-needle.result c.needle_of-literal.result c.as_ref-needle.ensures.value (c.needle_of-literal.ensures template seen finds)) in
+          let none = c.pass.ensures.unselected template seen finds in
           let at : start + (length first + length passed) ≡ start + length first + length passed = omega arith in
           ap (λ s. count + c.from-count.result + count_from o seen (c.args.most - (count + c.from-count.result)) s (lines end further)) at
           ∙ ap (λ n. count + c.from-count.result + n)

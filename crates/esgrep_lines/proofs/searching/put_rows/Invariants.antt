@@ -12,8 +12,8 @@ use Rattle.esgrep_lines.specs.GivenUp.{IsBehind, AreGivenUp, TellsBefore}
 use Rattle.esgrep_lines.proofs.RowsLemmas.{IsPut}
 use Rattle.esgrep_lines.proofs.searching.put_rows.Given as goal
 
-abbrev pub invariant-loop-needle : goal.invariant-loop-needle
-invariant-loop-needle g l = record {
+abbrev pub invariant-loop-rest : goal.invariant-loop-rest
+invariant-loop-rest g l = record {
   text : shadow (Utf8 l.rest);
   place : l.start + length l.rest ≡ length l.text;
   number : l.number ≤ l.start + 1;
@@ -31,5 +31,5 @@ invariant-loop-needle g l = record {
       ≡ count_from l.rows.options seen l.rows.options.most 0 (lines (byte_of l.rows.options.ending) l.text);
 }
 
-abbrev pub decreases-loop-needle : goal.decreases-loop-needle
-decreases-loop-needle g l = length l.rest
+abbrev pub decreases-loop-rest : goal.decreases-loop-rest
+decreases-loop-rest g l = length l.rest
