@@ -66,7 +66,7 @@ impl Place<'_> {
 /// as many as the options say. The offsets of lines whose search was given up are put into `given_up`.
 pub(crate) fn push_groups_of_lines(
     alloc: Global,
-    patterns: &Patterns,
+    patterns: &Patterns<'_>,
     options: &Options,
     name: &str,
     text: &str,
@@ -103,7 +103,7 @@ pub(crate) fn push_groups_of_lines(
 
 /// Puts all matches in a text that stands at `start` into `founds`; none where the search is given up, and then `start` is noted.
 fn find_or_note(
-    patterns: &Patterns,
+    patterns: &Patterns<'_>,
     start: usize,
     text: &str,
     founds: &mut Vec<Match>,
@@ -125,7 +125,7 @@ fn find_or_note(
 /// and the offset of the text is put into `given_up`.
 pub(crate) fn push_groups(
     alloc: Global,
-    patterns: &Patterns,
+    patterns: &Patterns<'_>,
     options: &Options,
     name: &str,
     text: &str,

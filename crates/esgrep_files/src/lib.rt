@@ -8,10 +8,10 @@ mod compiling;
 mod files;
 mod globs;
 mod groups;
+mod line_buffer;
 mod refusal;
 mod running;
 mod settings;
-mod skimming;
 mod texts;
 mod words;
 

@@ -5,12 +5,14 @@ use crate::compiling::regexes;
 use crate::files::{Chosen, Kind, bytes_of, joined, kind_of, last_name, names_in};
 use crate::globs::Globs;
 use crate::groups::{push_groups, push_groups_of_lines};
+use crate::line_buffer::LineBuffer;
 use crate::refusal::Refusal;
-use crate::settings::{Coloring, Settings};
-use crate::skimming::Skimmer;
-use crate::texts::{Content, content_of};
+use crate::settings::{Coloring, NoText, Settings};
+use crate::texts::{Content, DECIDING, content_of, is_binary, text_of};
 use crate::words::read_contexts;
-use esgrep_lines::{FindError, Finder, Output, SearchError, Unwritten, search};
+use esgrep_lines::{
+    FindError, Output, SearchError, Unwritten, count, goes_by_pieces, put_count, search,
+};
 use esgrep_patterns::{Patterns, parts_of};
 use esgrep_rows::{Ending, Mode, Options, Shown};
 use memchr::memchr_iter;
@@ -21,7 +23,7 @@ use std::fs::{File, OpenFile};
 use std::io::{ErrorKind, Read, Write};
 use std::process::ExitCode;
 use std::rt::Runtime;
-use std::{env, io};
+use std::{env, io, mem};
 
 /// How standard input is named.
 const STANDARD_INPUT: &str = "(standard input)";
@@ -86,15 +88,15 @@ impl From<Refusal> for Stop {
 
 /// A search of files.
 #[derive(Drop)]
-struct Search<'r, 's, 'a, 't, R: Runtime + AllocGlobal, W: Write + Drop> {
+struct Search<'r, 's, 'a, 't, 'p, R: Runtime + AllocGlobal, W: Write + Drop> {
     rt: &'r R,
     settings: &'s Settings<'a>,
     options: Options,
-    patterns: Patterns,
+    patterns: Patterns<'p>,
     shown: Shown<'t>,
     chosen: Chosen,
     output: Output<W>,
-    skimmer: Skimmer,
+    lines: LineBuffer,
     tally: Tally,
 }
 
@@ -212,21 +214,29 @@ fn with_settings<R: Runtime + AllocGlobal>(
         rt,
         settings,
         options,
-        patterns: Patterns::new(regexes, settings.max_steps),
+        patterns: Patterns::new(&regexes, settings.max_steps),
         shown,
         chosen: Chosen {
             include: Globs::new(alloc, &settings.include)?,
             exclude: Globs::new(alloc, &settings.exclude)?,
         },
         output: Output::new(alloc, io::writer(rt), settings.by_row),
-        skimmer: Skimmer::new(alloc),
+        lines: LineBuffer::new(alloc),
         tally: Tally::default(),
     };
     let stop = files.search_all();
     Ok(files.finished(stop))
 }
 
-impl<'r, 's, 'a, 't, R: Runtime + AllocGlobal, W: Write + Drop> Search<'r, 's, 'a, 't, R, W> {
+impl<'r, 's, 'a, 't, 'p, R: Runtime + AllocGlobal, W: Write + Drop> Search<
+    'r,
+    's,
+    'a,
+    't,
+    'p,
+    R,
+    W,
+> {
     /// Tells of a file that can't be searched.
     fn tell(&mut self, path: &str, message: &(impl Display + Drop)) {
         self.tally.has_trouble = true;
@@ -335,25 +345,24 @@ impl<'r, 's, 'a, 't, R: Runtime + AllocGlobal, W: Write + Drop> Search<'r, 's, '
         Ok(())
     }
 
-    /// How many bytes a file has, where it is text and no line of it is selected, since it lacks bytes that each match needs.
-    fn length_without_match(&mut self, path: &str) -> Option<usize> {
-        let Options { ending, invert, .. } = self.options;
-        if self.settings.multiline || invert || ending != Ending::Newline {
-            return None;
-        }
-        let bytes = self.patterns.literal()?;
-        let mut file = File::open(self.rt, path).ok()?;
-        // What is no regular file gives its bytes only once.
-        if !file.metadata().ok()?.is_file() {
-            return None;
-        }
-        self.skimmer.length_without(&mut file, bytes)
+    /// Whether what is put out for a text is what is put out for its pieces, one behind the other.
+    fn goes_by_pieces(&self) -> bool {
+        !self.settings.multiline
+            && !self.settings.groups
+            && self.settings.max_steps.is_none()
+            && goes_by_pieces(&self.options)
     }
 
-    /// Searches a file. One without bytes that each match needs is read part by part, and searched as an empty one is.
+    /// Searches a file.
     fn search_file(&mut self, path: &str) -> Result<(), Stop> {
-        if let Some(length) = self.length_without_match(path) {
-            return self.search_content(path, length, Content::Text(""));
+        if self.goes_by_pieces() {
+            return match File::open(self.rt, path) {
+                Ok(mut file) => self.search_by_pieces(path, &mut file),
+                Err(error) => {
+                    self.tell(path, &error);
+                    Ok(())
+                }
+            };
         }
         match bytes_of(self.rt, path) {
             Ok(bytes) => self.search_bytes(path, &bytes),
@@ -366,14 +375,143 @@ impl<'r, 's, 'a, 't, R: Runtime + AllocGlobal, W: Write + Drop> Search<'r, 's, '
 
     /// Searches standard input.
     fn search_input(&mut self) -> Result<(), Stop> {
-        let mut bytes = Vec::new(self.rt.alloc());
-        match self.rt.reader().read_to_end(&mut bytes) {
-            Ok(_) => self.search_bytes(STANDARD_INPUT, &bytes),
+        let mut input = self.rt.reader();
+        if self.goes_by_pieces() {
+            return self.search_by_pieces(STANDARD_INPUT, &mut input);
+        }
+        self.search_rest(STANDARD_INPUT, &mut input, Vec::new(self.rt.alloc()))
+    }
+
+    /// Searches at once what was read of a file, and what is left of it.
+    fn search_rest<F: Read>(
+        &mut self,
+        name: &str,
+        file: &mut F,
+        read: Vec<u8>,
+    ) -> Result<(), Stop> {
+        let mut bytes = read;
+        match file.read_to_end(&mut bytes) {
+            Ok(_) => self.search_bytes(name, &bytes),
             Err(error) => {
-                self.tell(STANDARD_INPUT, &error);
+                self.tell(name, &error);
                 Ok(())
             }
         }
+    }
+
+    /// Searches a file piece by piece, unless it is binary.
+    fn search_by_pieces<F: Read>(&mut self, name: &str, file: &mut F) -> Result<(), Stop> {
+        let alloc = self.rt.alloc();
+        let mut lines = mem::replace(&mut self.lines, LineBuffer::new(alloc));
+        lines.clear();
+        let result = match lines.fill(file, DECIDING) {
+            Err(error) => {
+                self.tell(name, &error);
+                Ok(())
+            }
+            Ok(()) if self.is_binary(lines.bytes()) => {
+                self.search_rest(name, file, lines.bytes().to_vec(alloc)?)
+            }
+            Ok(()) => self.search_pieces(name, file, &mut lines),
+        };
+        self.lines = lines;
+        result
+    }
+
+    /// Whether a file with these bytes in front is not searched as text.
+    fn is_binary(&self, front: &[u8]) -> bool {
+        self.settings.no_text != NoText::Searched && is_binary(front, self.options.ending)
+    }
+
+    /// Searches the pieces of a file, of which the first was read.
+    fn search_pieces<F: Read>(
+        &mut self,
+        name: &str,
+        file: &mut F,
+        lines: &mut LineBuffer,
+    ) -> Result<(), Stop> {
+        self.tally.texts = self.tally.texts.saturating_add(1);
+        let mut count: usize = 0;
+        let mut passed: usize = 0;
+        for _ in 0..u64::MAX {
+            let piece = lines.whole_lines();
+            let len = piece.len();
+            let (selected, is_text) = self.search_piece(name, passed, piece)?;
+            count = count.saturating_add(selected);
+            passed = passed.saturating_add(len);
+            if !is_text || lines.is_ended() || self.is_told(count) {
+                break;
+            }
+            if let Err(error) = lines.pass(file, len) {
+                self.tell(name, &error);
+                break;
+            }
+        }
+        self.tally.bytes = self.tally.bytes.saturating_add(passed);
+        self.finish_pieces(name, count)
+    }
+
+    /// Whether no more lines have to be looked for, where so many are selected: only that there is one matters.
+    fn is_told(&self, count: usize) -> bool {
+        match self.options.mode {
+            Mode::WithMatch | Mode::WithoutMatch | Mode::Quiet => count > 0,
+            Mode::Lines | Mode::Matches | Mode::Count => false,
+        }
+    }
+
+    /// Searches a piece of a file, in front of which so many bytes stand. Answers how many lines are selected, and whether all of it
+    /// is text.
+    fn search_piece(
+        &mut self,
+        name: &str,
+        passed: usize,
+        piece: &[u8],
+    ) -> Result<(usize, bool), Stop> {
+        let ending = self.options.ending;
+        match text_of(self.rt.alloc(), piece, ending, self.settings.no_text)? {
+            Content::Lossy(text) => Ok((self.put_piece(name, text.as_str())?, true)),
+            Content::Text(text) => Ok((self.put_piece(name, text)?, true)),
+            Content::NotUtf8(text, offset) => {
+                let selected = self.put_piece(name, text)?;
+                self.tell_not_utf8(name, passed.saturating_add(offset));
+                Ok((selected, false))
+            }
+            Content::Binary(_) | Content::Skipped => Ok((0, true)),
+        }
+    }
+
+    /// Puts out the rows of a piece of a text, where rows are asked for, and answers how many lines are selected.
+    fn put_piece(&mut self, name: &str, text: &str) -> Result<usize, Stop> {
+        match self.options.mode {
+            Mode::Lines | Mode::Matches => self.put_lines_alone(self.options, name, text),
+            _ => {
+                let mut given_up = Vec::new(self.rt.alloc());
+                Ok(count(&self.patterns, &self.options, text, &mut given_up)?)
+            }
+        }
+    }
+
+    /// Puts out what is told of all pieces of a text, in which so many lines are selected.
+    fn finish_pieces(&mut self, name: &str, count: usize) -> Result<(), Stop> {
+        self.tally.selected = self.tally.selected.saturating_add(count);
+        if !matches!(self.options.mode, Mode::Lines | Mode::Matches) {
+            if self.output.failed() {
+                return Err(Stop::Unwritten);
+            }
+            put_count(
+                self.rt.alloc(),
+                &self.options,
+                name,
+                count,
+                &mut self.output,
+            )?;
+        }
+        self.searched()
+    }
+
+    /// Tells of a file that is not UTF-8 from an offset on.
+    fn tell_not_utf8(&mut self, name: &str, offset: usize) {
+        self.tell(name, &format_args!("not UTF-8 from byte {offset} on"));
     }
 
     /// Searches what was read, as far as it is text.
@@ -397,10 +535,16 @@ impl<'r, 's, 'a, 't, R: Runtime + AllocGlobal, W: Write + Drop> Search<'r, 's, '
             Content::Lossy(text) => self.search_text(name, text.as_str())?,
             Content::Binary(text) => self.search_binary(name, text.as_str())?,
             Content::Skipped => {}
-            Content::NotUtf8(offset) => {
-                self.tell(name, &format_args!("not UTF-8 from byte {offset} on"));
+            Content::NotUtf8(text, offset) => {
+                self.search_text(name, text)?;
+                self.tell_not_utf8(name, offset);
             }
         }
+        self.searched()
+    }
+
+    /// A file was searched: tells how much was, and ends the search where nothing else is asked.
+    fn searched(&self) -> Result<(), Stop> {
         self.report();
         if self.options.mode == Mode::Quiet && self.tally.selected > 0 {
             return Err(Stop::Found);

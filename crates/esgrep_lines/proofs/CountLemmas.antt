@@ -1,5 +1,5 @@
 -- Which lines are selected, and how many.
-use Rattle.std.proofs.Common.{◌≡◌, ◌≢◌, ◌↔◌, ℕ, zero, suc, ◌+◌, ◌-◌, ◌<◌, ◌≤◌, Bool, true, false, not, ◌&&◌, List, [], ◌∷◌, ◌++◌, length, take, refl, sym, ap, ◌∙◌, add-zero, length-take, lit≤, ne_eqb, arith}
+use Rattle.std.proofs.Common.{◌≡◌, ◌≢◌, ◌↔◌, ℕ, zero, suc, ◌+◌, ◌-◌, ◌<◌, ◌≤◌, Bool, true, false, not, ◌&&◌, List, [], ◌∷◌, length, take, refl, sym, ap, ◌∙◌, add-zero, length-take, lit≤, ne_eqb, arith}
 use Rattle.std.specs.Prelude.{◌==◌, IsTrue, nat_lt, min, filter, if◌then◌else◌}
 use Rattle.std.specs.Int.{from_bool}
 use Rattle.std.proofs.lemmas.Bool.{lt-ltb, ltb-true, ltb-false, eqb-true}
@@ -188,9 +188,6 @@ count-told o seen text limit count is counted =
     ∙ count-all o seen (needed o.mode o.most) 1 0 (lines (byte_of o.ending) text)
     ∙ told-needed o.mode o.most (chosen o seen (numbered_lines o.ending text))
 
--- the row that tells it
-pub row-told : (o : Options) (seen : Seen) (name text : List ℕ) (count : ℕ) (old row bytes : List ℕ) → old ≡ [] → row ≡ old ++ summary o name o.mode count
-    → bytes ≡ row → count ≡ count_of o seen text → bytes ≡ summary_of o seen name text
-row-told o seen name text count old row bytes none pushed is counted =
-    is ∙ pushed ∙ ap (λ l. l ++ summary o name o.mode count) none ∙ ap (summary o name o.mode) counted
-    ∙ summary-told o name o.mode (length (selected_lines o seen text))
+-- a summary by how many are told of
+pub summary-counted : (o : Options) (seen : Seen) (name text : List ℕ) (count : ℕ) → count ≡ count_of o seen text → summary o name o.mode count ≡ summary_of o seen name text
+summary-counted o seen name text count counted = ap (summary o name o.mode) counted ∙ summary-told o name o.mode (length (selected_lines o seen text))

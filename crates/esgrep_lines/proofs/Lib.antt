@@ -6,3 +6,4 @@ pub mod PassingLemmas
 pub mod PartLemmas
 pub mod TouchedLemmas
 pub mod GivenUpLemmas
+pub mod PieceLemmas

@@ -1,5 +1,5 @@
 -- Lines that are passed over: none of them is selected.
-use Rattle.std.proofs.Common.{◌≡◌, ℕ, zero, suc, ◌+◌, ◌-◌, ◌<◌, Bool, true, false, ◌&&◌, ◌||◌, List, [], ◌∷◌, ◌++◌, length, drop, get_or, sum_by, All, Option, not, refl, sym, ap, ap₂, subst, ◌∙◌, add-zero, length-append, arith}
+use Rattle.std.proofs.Common.{◌≡◌, ℕ, zero, suc, ◌+◌, ◌-◌, ◌<◌, Bool, true, false, ◌&&◌, ◌||◌, List, [], ◌∷◌, ◌++◌, length, drop, get_or, sum_by, All, Option, not, refl, sym, ap, ap₂, ◌∙◌, add-zero, length-append, arith}
 use Rattle.std.specs.Prelude.{nat_lt, flat_map, codes, if◌then◌else◌}
 use Rattle.std.proofs.lemmas.Bool.{lt-ltb, le-ltb}
 use Rattle.std.proofs.lemmas.List.{drop_all}
@@ -17,7 +17,7 @@ use Rattle.esgrep_lines.proofs.CountLemmas.{count-one, count-zero}
 use Rattle.esgrep_lines.proofs.StepLemmas.{rows-held}
 use Rattle.esgrep_lines.proofs.RowsLemmas.{numbered-line}
 
-and-false : (a b : Bool) → b ≡ false → (a && b) ≡ false
+pub and-false : (a b : Bool) → b ≡ false → (a && b) ≡ false
 and-false true b e = e
 and-false false b e = refl
 
@@ -77,7 +77,7 @@ or-true true b e = refl
 or-true false b e = e
 
 -- where none may stand before a selected line, none is held back
-held-none : (o : Options) (p : Progress) (line : Line) → o.before ≡ 0 → held_back o.before p line ≡ left_out p
+pub held-none : (o : Options) (p : Progress) (line : Line) → o.before ≡ 0 → held_back o.before p line ≡ left_out p
 held-none o p line none =
     let held : List Line = p.held ++ line ∷ [] in
     let some : 0 < length held = omega (arith, length-append p.held (line ∷ [])) in

@@ -7,7 +7,7 @@ use Rattle.esgrep_rows.specs.Found.{Seen}
 use Rattle.esgrep_rows.specs.Rows.{Progress, rows, is_selected, found_at_line, before_row, selected_row, near_row, following, held_back}
 
 module _ (o : Options) (seen : Seen) (name : List ℕ) where
-  rows-selected : (most : ℕ) (p : Progress) (line : Line) (more : List Line) → nat_lt 0 most ≡ true → is_selected o seen line.start line.bytes ≡ true
+  pub rows-selected : (most : ℕ) (p : Progress) (line : Line) (more : List Line) → nat_lt 0 most ≡ true → is_selected o seen line.start line.bytes ≡ true
       → rows o seen name most p (line ∷ more)
       ≡ before_row o name p ++ selected_row o name line (found_at_line o seen line.start line.bytes) ++ rows o seen name (most - 1) (following o.after) more
   unfolding rows

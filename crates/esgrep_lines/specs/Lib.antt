@@ -6,3 +6,4 @@ pub mod Parts
 pub mod Finding
 pub mod Laws
 pub mod GivenUp
+pub mod Pieces

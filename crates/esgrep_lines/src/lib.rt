@@ -9,10 +9,12 @@ mod laws;
 mod output;
 mod parts;
 mod passing;
+mod pieces;
 mod searching;
 
 pub use finder::{FindError, Finder};
 pub use laws::touched_lines_have_parts;
 pub use output::{Output, Unwritten};
 pub use parts::Parts;
-pub use searching::{SearchError, search};
+pub use pieces::goes_by_pieces;
+pub use searching::{SearchError, count, put_count, search};

@@ -196,6 +196,62 @@ fn needed(options: &Options) -> usize
     }
 }
 
+/// How many lines of a text are selected; where only that there is one matters, at most one. A line whose search was given up is not
+/// selected; the offsets of such lines are put into `given_up`, in the place of what was there.
+///
+/// Errs where memory is refused alone.
+///
+/// ```rust
+/// let selected = count(&patterns, &options, text, &mut given_up)?;
+/// ```
+pub fn count<F: Finder>(
+    finder: &F,
+    options: &Options,
+    text: &str,
+    given_up: &mut Vec<usize>,
+) -> Result<usize, SearchError>
+    ensures count { (template : Option (List ℕ)) → (find : Find) → F.finds finder.now template find →
+        IfOk result (λ count. count ≡ count_of options.now (but_for given_up.new.items find) text.now) }
+    ensures given { AreGivenUp (F.gives_up finder.now) options.now.ending text.now given_up.new.items }
+    ensures refused { IsOkUnless result SearchError.OutOfMemory }
+{
+    given_up.clear();
+    let most = needed(options);
+    let selected = count_selected(finder, options, text, most, given_up)?;
+    Ok(selected)
+}
+
+/// Puts out what is told of a text of this name in which so many lines are selected: their number, or the name where some or none are.
+///
+/// Asks that no write has failed. Errs where one fails, and where memory is refused; then nothing was put out.
+///
+/// ```rust
+/// put_count(alloc, &options, "notes.txt", 2, &mut output)?; // by `-c` the row `2`
+/// ```
+pub fn put_count<W: Write + Drop>(
+    alloc: Global,
+    options: &Options,
+    name: &str,
+    count: usize,
+    output: &mut Output<W>,
+) -> Result<(), SearchError>
+    requires { has_failed output.old ≡ false }
+    ensures put { OnOk result (Appends (put_out W.contents output.old) (put_out W.contents output.new) (summary options.now name.now options.now.mode count)) }
+    ensures refused { IsErrOf result SearchError.OutOfMemory → output.new ≡ output.old }
+    ensures unwritten { IsErrOf result SearchError.Write →
+        IsBeginning (written W.contents output.new) (append_known (put_out W.contents output.old) (summary options.now name.now options.now.mode count)) }
+    ensures failure { (has_failed output.new ≡ true) ↔ IsErrOf result SearchError.Write }
+{
+    let rows = Rows {
+        options: *options,
+        name,
+    };
+    let mut row = String::new(alloc);
+    push_summary(&mut row, rows, count)?;
+    output.put(row.as_bytes())?;
+    Ok(())
+}
+
 /// Puts out how many lines of a text are selected, or its name where some or none are, and answers how many.
 fn put_summary<F: Finder, W: Write + Drop>(
     alloc: Global,
@@ -217,11 +273,8 @@ fn put_summary<F: Finder, W: Write + Drop>(
     ensures given { AreGivenUp (F.gives_up finder.now) rows.entry.options.ending text.now given_up.new.items }
     ensures failure { (has_failed output.new ≡ true) ↔ IsErrOf result SearchError.Write }
 {
-    let most = needed(&rows.options);
-    let count = count_selected(finder, &rows.options, text, most, given_up)?;
-    let mut row = String::new(alloc);
-    push_summary(&mut row, rows, count)?;
-    output.put(row.as_bytes())?;
+    let count = count(finder, &rows.options, text, given_up)?;
+    put_count(alloc, &rows.options, rows.name, count, output)?;
     Ok(count)
 }
 

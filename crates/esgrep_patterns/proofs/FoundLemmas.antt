@@ -1,14 +1,11 @@
 -- What is found of one pattern.
-use Rattle.std.proofs.Common.{◌≡◌, ◌≢◌, ◌↔◌, ℕ, Bool, List, [], ◌∷◌, map, chars, Option, Some, None, Bor, Result, Ok, Err, IfSome, OnOk, refl, sym, ap, ◌∙◌}
+use Rattle.std.proofs.Common.{◌≡◌, ◌≢◌, ◌↔◌, ℕ, Bool, List, [], ◌∷◌, map, chars, Option, Result, Ok, Err, OnOk, refl, sym, ap, ◌∙◌}
 use Rattle.std.specs.Prelude.{IsTrue, IfOk}
 use Rattle.regress_meaning.specs.Table.{Table}
 use Rattle.regress_meaning.specs.Pattern.{Pattern}
 use Rattle.regress_meaning.specs.Flags.{Options}
 use Rattle.regress_meaning.specs.Matches.{match_list}
 use Rattle.regress_meaning.specs.Offsets.{of_utf8, told}
-use Rattle.regress.specs.Literals.{IsNowhereIn}
-use Rattle.esgrep_rows.specs.Lines.{StandNowhere}
-use Rattle.esgrep_lines.proofs.PassingLemmas.{nowhere-part}
 use Rattle.regress_match.specs.declared.found.Match.{Match}
 use Rattle.regress_match.specs.Views.{item_of}
 use Rattle.esgrep_rows.specs.Found.{Found, found_of, found_at}
@@ -36,14 +33,6 @@ found-ok (Err e) t o p template names text all is found = tt
 pub found-all_ok : {T E : Type 0} (r : Result T E) (founds one all : List Found) → all ≡ one → OnOk r (founds ≡ one) → OnOk r (founds ≡ all)
 found-all_ok (Ok x) founds one all is found = found ∙ sym is
 found-all_ok (Err e) founds one all is found = tt
-
--- nothing is found where bytes that are needed stand nowhere
-pub found-none : (r : Option (Bor (List ℕ))) (t : Table) (o : Options) (p : Pattern) (template : Option (List ℕ)) (names : List (List ℕ)) (text : List ℕ) (all : List Found)
-    → all ≡ found_in t o p template names text → IfSome r (λ bytes. IsNowhereIn bytes.now text → match_list t o p (chars text) 0 ≡ [])
-    → IfSome r (λ bytes. StandNowhere bytes.now text → all ≡ [])
-found-none None t o p template names text all is needed = tt
-found-none (Some bytes) t o p template names text all is needed =
-    λ nowhere. is ∙ ap (λ ms. map (found_at template names text) (map (told (of_utf8 text)) ms)) (needed (nowhere-part bytes.now text nowhere))
 
 -- of what is found the matches
 pub items-found : (template : Option (List ℕ)) (text : List ℕ) (ms : List Match) → map item_of ms ≡ map (λ f. f.item) (map (found_of template text) ms)

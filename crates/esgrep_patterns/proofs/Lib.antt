@@ -3,3 +3,4 @@ pub mod FoundLemmas
 pub mod HitLemmas
 pub mod SeveralLemmas
 pub mod BoundLemmas
+pub mod CandidateLemmas

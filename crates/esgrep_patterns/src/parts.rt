@@ -17,7 +17,7 @@ use std::alloc::Global;
 /// ```
 pub fn parts_of<'t>(
     alloc: Global,
-    patterns: &Patterns,
+    patterns: &Patterns<'_>,
     text: &'t str,
     ending: Ending,
 ) -> Result<Parts<'t>, FindError>

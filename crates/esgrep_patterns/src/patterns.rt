@@ -10,30 +10,44 @@ ghost use Rattle.regress.specs.Standing.{StandsFor, names_of_regex};
 ghost use Rattle.regress.specs.Coming.{IsStart};
 ghost use Rattle.esgrep_rows.specs.Found.{found_of, LieInOrder};
 ghost use Rattle.esgrep_patterns.specs.Seeking.{Sought, Hit, sooner, first_hit, leftmost, found_in, found_of_several, regexes_of, steps_of, AreHits, BeginsInText, IsHit, Seeks, SeekAll, IsTooLong, GivesUp};
+ghost use Rattle.esgrep_patterns.specs.Candidates.{looks_ahead, start_of, IsOfOne};
 
 use esgrep_lines::{FindError, Finder};
 use regress::{Match, Regex, SearchError, is_start};
+use regress_engine_prefix::StartPredicate;
+use regress_engine_search::Prefilter;
 
 /// Patterns, each searched for alone: what they find of one is its matches, of several from each place on the leftmost.
 ///
 /// Where they have a number of steps, each search for the next match of a pattern is given up that would take more.
 #[derive(Drop)]
-pub struct Patterns {
-    regexes: Vec<Regex>,
+pub struct Patterns<'r> {
+    regexes: &'r [Regex],
     steps: Option<usize>,
+    /// Looks for where a match of the only pattern may begin, where the bytes from there on tell it.
+    prefilter: Option<Prefilter<'r>>,
+    ghost told: { IfSome prefilter (IsOfOne regexes.now) },
 }
 
-impl Patterns {
+impl<'r> Patterns<'r> {
     /// Patterns of these regexes, and how many steps each search may take, if there is a bound.
     ///
     /// ```rust
-    /// let patterns = Patterns::new(vec![in alloc; regex]?, None);
+    /// let patterns = Patterns::new(from_ref(&regex), None);
     /// ```
-    pub fn new(regexes: Vec<Regex>, steps: Option<usize>) -> Patterns
-        ensures regexes { regexes_of result ≡ regexes.items }
+    pub fn new(regexes: &'r [Regex], steps: Option<usize>) -> Patterns<'r>
+        ensures regexes { regexes_of result ≡ regexes.now }
         ensures steps { steps_of result ≡ steps }
     {
-        Patterns { regexes, steps }
+        let prefilter = match regexes {
+            [regex] => prefilter_of(regex),
+            _ => None,
+        };
+        Patterns {
+            regexes,
+            steps,
+            prefilter,
+        }
     }
 
     /// Appends all matches of several patterns: from each place on the leftmost.
@@ -64,14 +78,14 @@ impl Patterns {
         ensures given { IsErrOf result FindError.GivenUp → GivesUp self.now text.now }
     {
         let mut leftmost = None;
-        for regex in &self.regexes {
+        for regex in self.regexes {
             leftmost = sooner(leftmost, next_match(regex, self.steps, text, start)?);
         }
         Ok(leftmost)
     }
 }
 
-impl Finder for Patterns {
+impl<'r> Finder for Patterns<'r> {
     ghost use Rattle.esgrep_patterns.specs.Seeking.{Finds, GivesUp};
 
     ghost finds = { Finds };
@@ -98,11 +112,35 @@ impl Finder for Patterns {
         self.find_several_into(text, founds)
     }
 
-    fn literal(&self) -> Option<&[u8]> {
-        match self.regexes.as_slice() {
-            [regex] => regex.required_literal(),
-            _ => None,
+    fn candidate(&self, text: &str) -> Option<usize> {
+        match &self.prefilter {
+            Some(prefilter) => prefilter.find_from(text.as_bytes(), 0),
+            None => Some(0),
         }
+    }
+}
+
+/// Whether a start predicate speaks of the bytes from an offset on alone.
+fn looks_ahead(start: &StartPredicate) -> bool
+    ensures { result ≡ looks_ahead start.now }
+{
+    match start {
+        StartPredicate::Arbitrary
+        | StartPredicate::StartAnchored
+        | StartPredicate::WordStart(_) => false,
+        _ => true,
+    }
+}
+
+/// What looks for where a match of a regex may begin, where the bytes from there on tell it.
+fn prefilter_of(regex: &Regex) -> Option<Prefilter<'_>>
+    ensures { IfSome result (λ prefilter. (prefilter.start.now ≡ start_of regex.now) × (looks_ahead prefilter.start.now ≡ true)) }
+{
+    let start = regex.compiled().byte_program.start_pred();
+    if looks_ahead(start) {
+        Some(Prefilter::new(start))
+    } else {
+        None
     }
 }
 

@@ -1,4 +1,4 @@
-use Rattle.std.proofs.Common.{◌≡◌, subst, sym, List, take, ℕ, All, Option, Some, None}
+use Rattle.std.proofs.Common.{subst, sym, List, take, ℕ, All, Option}
 use Rattle.esgrep_rows.specs.Lines.{byte_of, lines, body, EndsBefore}
 use Rattle.esgrep_rows.proofs.CuttingLemmas.{lines-all}
 use Rattle.esgrep_rows.proofs.PassingLemmas.{lines-before, lines-all_before, byte-ascii}

@@ -9,7 +9,7 @@ use Rattle.esgrep_patterns.proofs.patterns.PatternsFinder.find_into.Goals as goa
 pub returns-then-is_none-clause-found : goal.returns-then-is_none-clause-found
 returns-then-is_none-clause-found c = λ template find finds.
     let text = c.args.text.now in
-    found-alone c.args.self.now.regexes.items finds.sought c.index.result.now (omega arith) c.index.ensures finds.seek
+    found-alone c.args.self.now.regexes.now finds.sought c.index.result.now (omega arith) c.index.ensures finds.seek
     template text (find c.args._start text) (finds.finds c.args._start text) _
     (λ s seeks is. found-all_ok c.find_one_into.result (map (found_of template text) c.find_one_into.new.founds.items) _ (find c.args._start text)
     (is ∙ ap (λ names. found_in s.table s.options s.pattern template names text) (sym seeks.1))

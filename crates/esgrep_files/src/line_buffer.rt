@@ -1,0 +1,110 @@
+//! Files read piece by piece, each of whole lines.
+ghost use Rattle.std.specs.Prelude.{◌≤◌, length};
+
+use memchr::memrchr;
+use std::alloc::{AllocError, Global};
+use std::io;
+use std::io::{ErrorKind, Read};
+
+/// How many bytes there is room for at first; there is more where a line is longer.
+const ROOM: usize = 256 * 1024;
+
+/// What was read of a file and not yet passed.
+#[derive(Drop)]
+pub(crate) struct LineBuffer {
+    room: Vec<u8>,
+    filled: usize,
+    is_ended: bool,
+}
+
+impl LineBuffer {
+    /// Of no file, and with no room.
+    pub fn new(alloc: Global) -> LineBuffer {
+        LineBuffer {
+            room: Vec::new(alloc),
+            filled: 0,
+            is_ended: false,
+        }
+    }
+
+    /// Forgets the file.
+    pub fn clear(&mut self) {
+        self.filled = 0;
+        self.is_ended = false;
+    }
+
+    /// Whether the file was read to its end.
+    pub fn is_ended(&self) -> bool {
+        self.is_ended
+    }
+
+    /// What was read and not yet passed.
+    pub fn bytes(&self) -> &[u8] {
+        self.room.get(..self.filled).unwrap_or(&[])
+    }
+
+    /// What was read of whole lines; all where the file has ended.
+    pub fn whole_lines(&self) -> &[u8] {
+        let bytes = self.bytes();
+        if self.is_ended {
+            bytes
+        } else {
+            &bytes[..lines_end(bytes)]
+        }
+    }
+
+    /// Makes more room, where there is none left.
+    fn make_room(&mut self) -> Result<(), AllocError> {
+        let len = self.room.len();
+        if self.filled >= len {
+            self.room.resize(len.saturating_mul(2).max(ROOM), 0)?;
+        }
+        Ok(())
+    }
+
+    /// Reads once more, where the file has not ended.
+    fn read_once<R: Read>(&mut self, file: &mut R) -> io::Result<()> {
+        self.make_room()?;
+        let Some(free) = self.room.get_mut(self.filled..) else {
+            return Ok(());
+        };
+        match file.read(free) {
+            Ok(0) => self.is_ended = true,
+            Ok(read) => self.filled += read,
+            Err(error) if error.kind() == ErrorKind::Interrupted => {}
+            Err(error) => return Err(error),
+        }
+        Ok(())
+    }
+
+    /// Reads until so many bytes and a whole line are there, or the file ends.
+    pub fn fill<R: Read>(&mut self, file: &mut R, least: usize) -> io::Result<()> {
+        for _ in 0..u64::MAX {
+            let is_enough = self.filled >= least && !self.whole_lines().is_empty();
+            if self.is_ended || is_enough {
+                break;
+            }
+            self.read_once(file)?;
+        }
+        Ok(())
+    }
+
+    /// Passes so many bytes of the front, and reads on until a whole line is there, or the file ends.
+    pub fn pass<R: Read>(&mut self, file: &mut R, count: usize) -> io::Result<()> {
+        let count = count.min(self.filled);
+        self.room.copy_within(count..self.filled, 0);
+        self.filled -= count;
+        self.read_once(file)?;
+        self.fill(file, 0)
+    }
+}
+
+/// Up to where bytes are whole lines.
+fn lines_end(bytes: &[u8]) -> usize
+    ensures { result ≤ length bytes.now }
+{
+    match memrchr(b'\n', bytes) {
+        Some(last) => last + 1,
+        None => 0,
+    }
+}
