@@ -40,7 +40,7 @@ impl LineBuffer {
 
     /// What was read and not yet passed.
     pub fn bytes(&self) -> &[u8] {
-        self.room.get(..self.filled).unwrap_or(&[])
+        &self.room[..self.filled.min(self.room.len())]
     }
 
     /// What was read of whole lines; all where the file has ended.
@@ -65,12 +65,10 @@ impl LineBuffer {
     /// Reads once more, where the file has not ended.
     fn read_once<R: Read>(&mut self, file: &mut R) -> io::Result<()> {
         self.make_room()?;
-        let Some(free) = self.room.get_mut(self.filled..) else {
-            return Ok(());
-        };
-        match file.read(free) {
+        let filled = self.filled.min(self.room.len());
+        match file.read(&mut self.room[filled..]) {
             Ok(0) => self.is_ended = true,
-            Ok(read) => self.filled += read,
+            Ok(read) => self.filled = filled + read,
             Err(error) if error.kind() == ErrorKind::Interrupted => {}
             Err(error) => return Err(error),
         }
@@ -91,9 +89,10 @@ impl LineBuffer {
 
     /// Passes so many bytes of the front, and reads on until a whole line is there, or the file ends.
     pub fn pass<R: Read>(&mut self, file: &mut R, count: usize) -> io::Result<()> {
-        let count = count.min(self.filled);
-        self.room.copy_within(count..self.filled, 0);
-        self.filled -= count;
+        let filled = self.filled.min(self.room.len());
+        let count = count.min(filled);
+        self.room.copy_within(count..filled, 0);
+        self.filled = filled - count;
         self.read_once(file)?;
         self.fill(file, 0)
     }

@@ -3,6 +3,7 @@ use Rattle.std.proofs.Common.{◌≡◌, ℕ, zero, suc, ◌+◌, ◌≤◌, ◌
 use Rattle.std.specs.Prelude.{nat_eq}
 use Rattle.std.proofs.lemmas.Bool.{cases_lt}
 use Rattle.std.proofs.lemmas.List.{drop-append-le, take-append-le}
+use Rattle.std.proofs.lemmas.List.Elements.{All-head}
 use Rattle.std.proofs.Math.Seq.{drop-append_seam}
 use Rattle.std.specs.Str.{IsUtf8}
 use Rattle.regress_meaning.specs.Meaning.{is_some_and}
@@ -23,13 +24,14 @@ use Rattle.regress_engine_prefix.specs.declared.start.StartPredicate.{StartPredi
 use Rattle.regress_engine_prefix.specs.declared.start.StartPredicate.TheVariants.{Arbitrary, ByteSet1, ByteSet2, ByteSet3, ByteSeq, ByteBracket, ByteNear, StartAnchored}
 use Rattle.regress_engine_prefix.specs.declared.start.StartPredicate.TheVariants as variant
 use Rattle.regress_engine_search.specs.Prefiltering.{IsNextHit}
+use Rattle.regress_engine_search.specs.declared.prefilter.Prefilter.{Prefilter}
 use Rattle.regress_programs.proofs.ListedLemmas.{pattern-in_text}
 use Rattle.regress.specs.declared.api.Regex.{Regex}
 use Rattle.regress.proofs.NeededLemmas.{no-match}
 use Rattle.esgrep_rows.specs.Lines.{EndsBefore}
 use Rattle.esgrep_rows.specs.Found.{Found, found_at}
-use Rattle.esgrep_patterns.specs.Seeking.{Sought, Seeks, found_in}
-use Rattle.esgrep_patterns.specs.Candidates.{looks_ahead, start_of}
+use Rattle.esgrep_patterns.specs.Seeking.{Sought, Seeks, SeekAll, found_in, found_of_all}
+use Rattle.esgrep_patterns.specs.Candidates.{looks_ahead, start_of, IsOfOne}
 
 -- a byte that is there lies inside
 inside : (test : ℕ → Bool) (bytes : List ℕ) (k : ℕ) → is_some_and (slice_get bytes k) test ≡ true → k < length bytes
@@ -50,16 +52,17 @@ run-stays : (run : ℕ → Bool) (byte : ℕ) (bytes rest : List ℕ) → run_th
 run-stays run byte [] rest h = absurd (cc h)
 run-stays run byte (b ∷ bytes) rest h =
     let parts = both-parts (not (nat_eq byte b) && run b) (is_some_and (slice_get bytes 0) (nat_eq byte) || run_then run byte bytes) h in
-    ap₂ ◌&&◌ parts.0 (by_next (is_some_and (slice_get bytes 0) (nat_eq byte)) refl parts.1)
+    ap₂ ◌&&◌ parts.0 (by_next (is_some_and (slice_get bytes 0) (nat_eq byte)) refl parts.1 (run-stays run byte bytes rest))
   where
     or-true : (a b : Bool) → b ≡ true → (a || b) ≡ true
     or-true true b e = refl
     or-true false b e = e
 
     by_next : (next : Bool) → is_some_and (slice_get bytes 0) (nat_eq byte) ≡ next → (next || run_then run byte bytes) ≡ true
+        → (run_then run byte bytes ≡ true → run_then run byte (bytes ++ rest) ≡ true)
         → (is_some_and (slice_get (bytes ++ rest) 0) (nat_eq byte) || run_then run byte (bytes ++ rest)) ≡ true
-    by_next true is more = ap (λ (b : Bool). b || run_then run byte (bytes ++ rest)) (stays (nat_eq byte) bytes rest 0 is)
-    by_next false is more = or-true (is_some_and (slice_get (bytes ++ rest) 0) (nat_eq byte)) (run_then run byte (bytes ++ rest)) (run-stays run byte bytes rest more)
+    by_next true is more later = ap (λ (b : Bool). b || run_then run byte (bytes ++ rest)) (stays (nat_eq byte) bytes rest 0 is)
+    by_next false is more later = or-true (is_some_and (slice_get (bytes ++ rest) 0) (nat_eq byte)) (run_then run byte (bytes ++ rest)) (later more)
 
 -- What a part of a text begins with, the text goes on with at the same place.
 module _ (text front part rest : List ℕ) (cut : text ≡ front ++ part ++ rest) where
@@ -143,7 +146,7 @@ never-before start ahead text (Some at) hit part (utf8, front, rest, cut, room) 
     (begins-on text front part rest cut start ahead k begins)
 
 -- so nothing is found in it
-pub none-before : (regex : Regex) (s : Sought) → Seeks regex s → (start : StartPredicate) → start ≡ start_of regex → looks_ahead start ≡ true → (text : List ℕ) (found : Option ℕ)
+none-before : (regex : Regex) (s : Sought) → Seeks regex s → (start : StartPredicate) → start ≡ start_of regex → looks_ahead start ≡ true → (text : List ℕ) (found : Option ℕ)
     → IsNextHit start text 0 found → (part : List ℕ) → EndsBefore text found part → (template : Option (List ℕ)) (all : List Found)
     → all ≡ found_in s.table s.options s.pattern template s.names part → all ≡ []
 none-before regex s seeks start same ahead text found hit part before template all is =
@@ -153,3 +156,14 @@ none-before regex s seeks start same ahead text found hit part before template a
     pattern-in_text program s.table s.options s.pattern seeks.0 part before.0 0
     ∙ no-match program regex.compiled.of_bytes part before.0 never (length (names_of s.pattern)) seeks.0.node (seeks.0.well_formed, seeks.0.layout) 0 in
     is ∙ ap (λ ms. map (found_at template s.names part) (map (told (of_utf8 part)) ms)) none
+
+-- and in a part in front of a candidate nothing is found of the only pattern
+pub found-before : (regexes : List Regex) (ss : List Sought) (prefilter : Prefilter) → IsOfOne regexes prefilter → SeekAll regexes ss → (text : List ℕ) (found : Option ℕ)
+    → IsNextHit prefilter.start.now text 0 found → (part : List ℕ) → EndsBefore text found part → (template : Option (List ℕ)) (all : List Found)
+    → all ≡ found_of_all ss template part → all ≡ []
+found-before [] ss prefilter one seek text found hit part before template all is = absurd (omega (arith, one.0))
+found-before (r ∷ q ∷ regexes) ss prefilter one seek text found hit part before template all is = absurd (omega (arith, one.0))
+found-before (r ∷ []) [] prefilter one seek text found hit part before template all is = absurd seek
+found-before (r ∷ []) (s ∷ t ∷ ss) prefilter one seek text found hit part before template all is = absurd seek.1
+found-before (r ∷ []) (s ∷ []) prefilter one seek text found hit part before template all is =
+    none-before r s seek.0 prefilter.start.now (All-head (λ regex. prefilter.start.now ≡ start_of regex) r [] one.1) one.2 text found hit part before template all is

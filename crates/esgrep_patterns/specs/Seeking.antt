@@ -107,7 +107,7 @@ SeekAll regexes ss = ⊥
 
 -- what is searched for
 abbrev pub regexes_of : Patterns → List Regex
-regexes_of patterns = patterns.regexes.now
+regexes_of patterns = patterns.searched.regexes.now
 
 -- how many steps each search may take, if there is a bound
 abbrev pub steps_of : Patterns → Option ℕ

@@ -3,6 +3,7 @@
 
 mod parts;
 mod patterns;
+mod prefiltered;
 
 pub use parts::parts_of;
 pub use patterns::Patterns;

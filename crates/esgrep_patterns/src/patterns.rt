@@ -10,23 +10,18 @@ ghost use Rattle.regress.specs.Standing.{StandsFor, names_of_regex};
 ghost use Rattle.regress.specs.Coming.{IsStart};
 ghost use Rattle.esgrep_rows.specs.Found.{found_of, LieInOrder};
 ghost use Rattle.esgrep_patterns.specs.Seeking.{Sought, Hit, sooner, first_hit, leftmost, found_in, found_of_several, regexes_of, steps_of, AreHits, BeginsInText, IsHit, Seeks, SeekAll, IsTooLong, GivesUp};
-ghost use Rattle.esgrep_patterns.specs.Candidates.{looks_ahead, start_of, IsOfOne};
 
+use crate::prefiltered::Prefiltered;
 use esgrep_lines::{FindError, Finder};
 use regress::{Match, Regex, SearchError, is_start};
-use regress_engine_prefix::StartPredicate;
-use regress_engine_search::Prefilter;
 
 /// Patterns, each searched for alone: what they find of one is its matches, of several from each place on the leftmost.
 ///
 /// Where they have a number of steps, each search for the next match of a pattern is given up that would take more.
 #[derive(Drop)]
 pub struct Patterns<'r> {
-    regexes: &'r [Regex],
+    searched: Prefiltered<'r>,
     steps: Option<usize>,
-    /// Looks for where a match of the only pattern may begin, where the bytes from there on tell it.
-    prefilter: Option<Prefilter<'r>>,
-    ghost told: { IfSome prefilter (IsOfOne regexes.now) },
 }
 
 impl<'r> Patterns<'r> {
@@ -39,14 +34,9 @@ impl<'r> Patterns<'r> {
         ensures regexes { regexes_of result ≡ regexes.now }
         ensures steps { steps_of result ≡ steps }
     {
-        let prefilter = match regexes {
-            [regex] => prefilter_of(regex),
-            _ => None,
-        };
         Patterns {
-            regexes,
+            searched: Prefiltered::new(regexes),
             steps,
-            prefilter,
         }
     }
 
@@ -78,7 +68,7 @@ impl<'r> Patterns<'r> {
         ensures given { IsErrOf result FindError.GivenUp → GivesUp self.now text.now }
     {
         let mut leftmost = None;
-        for regex in self.regexes {
+        for regex in self.searched.regexes {
             leftmost = sooner(leftmost, next_match(regex, self.steps, text, start)?);
         }
         Ok(leftmost)
@@ -93,10 +83,10 @@ impl<'r> Finder for Patterns<'r> {
     ghost gives_up = { GivesUp };
 
     fn is_match(&self, _start: usize, text: &str) -> Result<bool, FindError> {
-        if self.regexes.len() == 1 {
-            return has_match(&self.regexes[0], self.steps, text);
+        if self.searched.regexes.len() == 1 {
+            return has_match(&self.searched.regexes[0], self.steps, text);
         }
-        is_any_match(&self.regexes, self.steps, text)
+        is_any_match(&self.searched.regexes, self.steps, text)
     }
 
     fn find_into(
@@ -106,41 +96,17 @@ impl<'r> Finder for Patterns<'r> {
         founds: &mut Vec<Match>,
     ) -> Result<(), FindError> {
         founds.clear();
-        if self.regexes.len() == 1 && self.steps.is_none() {
-            return find_one_into(&self.regexes[0], text, founds);
+        if self.searched.regexes.len() == 1 && self.steps.is_none() {
+            return find_one_into(&self.searched.regexes[0], text, founds);
         }
         self.find_several_into(text, founds)
     }
 
     fn candidate(&self, text: &str) -> Option<usize> {
-        match &self.prefilter {
+        match &self.searched.prefilter {
             Some(prefilter) => prefilter.find_from(text.as_bytes(), 0),
             None => Some(0),
         }
-    }
-}
-
-/// Whether a start predicate speaks of the bytes from an offset on alone.
-fn looks_ahead(start: &StartPredicate) -> bool
-    ensures { result ≡ looks_ahead start.now }
-{
-    match start {
-        StartPredicate::Arbitrary
-        | StartPredicate::StartAnchored
-        | StartPredicate::WordStart(_) => false,
-        _ => true,
-    }
-}
-
-/// What looks for where a match of a regex may begin, where the bytes from there on tell it.
-fn prefilter_of(regex: &Regex) -> Option<Prefilter<'_>>
-    ensures { IfSome result (λ prefilter. (prefilter.start.now ≡ start_of regex.now) × (looks_ahead prefilter.start.now ≡ true)) }
-{
-    let start = regex.compiled().byte_program.start_pred();
-    if looks_ahead(start) {
-        Some(Prefilter::new(start))
-    } else {
-        None
     }
 }
 
