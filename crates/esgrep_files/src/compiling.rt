@@ -2,8 +2,8 @@
 
 use crate::refusal::Refusal;
 use crate::settings::Settings;
-use regress::{CompileError, Flags, Regex, Tables, escape, syntax_error};
-use regress_unicode::unicode_tables;
+use regress::{CompileError, Flags, Regex, TableError, Tables, escape, syntax_error};
+use regress_unicode::{unicode_case_parts, unicode_tables};
 use std::alloc::{AllocError, Global};
 use std::fs;
 use std::rt::Files;
@@ -111,23 +111,36 @@ fn asked(
     }
 }
 
-/// What stands in each pattern whose meaning depends on tables of Unicode, where it is of ASCII and no flag ignores case: a
-/// property, an escaped character, which may stand in a name, or a modifier, which may ignore case.
-const ASKING: [&str; 6] = ["\\p", "\\P", "\\u", "(?i", "(?m", "(?s"];
+/// What stands in each pattern that asks for a property.
+const PROPERTIES: [&str; 2] = ["\\p", "\\P"];
 
-/// Whether a pattern asks for tables of Unicode. Small ones serve the others, and are there sooner.
-fn asks_unicode(pattern: &str) -> bool {
-    !pattern.is_ascii() || ASKING.iter().any(|part| pattern.contains(*part))
+/// What stands in each pattern whose meaning depends on Unicode otherwise, where it is of ASCII and no flag ignores case: an escaped
+/// character, which may stand in a name, or a modifier, which may ignore case.
+const CHARACTERS: [&str; 4] = ["\\u", "(?i", "(?m", "(?s"];
+
+/// Whether one of some texts stands in a pattern.
+fn has_one(pattern: &str, texts: &[&str]) -> bool {
+    texts.iter().any(|text| pattern.contains(*text))
 }
 
-/// Tables for some patterns.
+/// Unicode's own table without its properties.
+fn case_tables(alloc: Global) -> Result<Tables, TableError> {
+    Tables::new(alloc, unicode_case_parts(alloc)?)
+}
+
+/// Tables for some patterns: as few as serve them, which are there sooner.
 fn tables_for(alloc: Global, patterns: &[String], flags: Flags) -> Result<Tables, Refusal> {
-    let asks = flags.icase
-        || patterns
-            .iter()
-            .any(|pattern| asks_unicode(pattern.as_str()));
-    let tables = if asks {
+    let mut asks_properties = false;
+    let mut asks_characters = flags.icase;
+    for pattern in patterns {
+        let text = pattern.as_str();
+        asks_properties |= has_one(text, &PROPERTIES);
+        asks_characters |= !text.is_ascii() || has_one(text, &CHARACTERS);
+    }
+    let tables = if asks_properties {
         unicode_tables(alloc)
+    } else if asks_characters {
+        case_tables(alloc)
     } else {
         Tables::small(alloc)
     };

@@ -1,5 +1,5 @@
 -- What parts of tables hold that are Unicode's.
-use Rattle.std.specs.Prelude.{◌≡◌, ℕ, Bool, ◌&&◌, nat_le, List}
+use Rattle.std.specs.Prelude.{◌≡◌, ℕ, Bool, ◌&&◌, nat_le, List, []}
 use Rattle.std.specs.List.{AllZip}
 use Rattle.regress_meaning.specs.Table.{last_code_point, code_points}
 use Rattle.regress_meaning.specs.TableParts.{TableParts, in_intervals}
@@ -33,6 +33,15 @@ pub record IsUnicode (parts : TableParts) : Type 0 where
   pub id_continue : Hold parts.id_continue (in_set (Binary IdContinue))
   pub properties : HoldAll parts.properties unicode_properties
   pub sequences : parts.sequences ≡ unicode_sequences
+
+-- The parts are those of Unicode's own table, without its properties.
+pub record IsUnicodeCase (parts : TableParts) : Type 0 where
+  pub fold : parts.fold ≡ moved fold_of code_points
+  pub upper : parts.upper ≡ moved upper_of units
+  pub id_start : Hold parts.id_start (in_set (Binary IdStart))
+  pub id_continue : Hold parts.id_continue (in_set (Binary IdContinue))
+  pub properties : parts.properties ≡ []
+  pub sequences : parts.sequences ≡ []
 
 -- Memory was refused, or Unicode's own parts break this law.
 abbrev pub IsRefusal : TableError → Type 0

@@ -4,7 +4,7 @@
 ghost use Rattle.std.specs.Prelude.{IfOk, IfErr, IsOkUnless};
 ghost use Rattle.regress_front_tables.specs.Parts.{parts_of};
 ghost use Rattle.regress_front_tables.specs.TableViews.{parts};
-ghost use Rattle.regress_unicode.specs.Unicode.{IsUnicode, IsRefusal};
+ghost use Rattle.regress_unicode.specs.Unicode.{IsUnicode, IsUnicodeCase, IsRefusal};
 
 mod case;
 mod casefold;
@@ -27,13 +27,32 @@ pub fn unicode_parts(alloc: Global) -> Result<TableParts, TableError>
     ensures unicode { IfOk result (λ parts. IsUnicode (parts_of parts)) }
     ensures refused { IsOkUnless result TableError.OutOfMemory }
 {
+    let properties = properties::properties(alloc)?;
+    let sequences = sequences::sequences(alloc)?;
+    Ok(TableParts {
+        properties,
+        sequences,
+        ..unicode_case_parts(alloc)?
+    })
+}
+
+/// The parts of Unicode's own table without its properties, which are there sooner: simple case folding, upper case, and the
+/// characters of identifiers. They are enough for a pattern without `\p` and `\P`. The only error is `OutOfMemory`.
+///
+/// ```rust
+/// let tables = Tables::new(alloc, unicode_case_parts(alloc)?)?;
+/// ```
+pub fn unicode_case_parts(alloc: Global) -> Result<TableParts, TableError>
+    ensures unicode { IfOk result (λ parts. IsUnicodeCase (parts_of parts)) }
+    ensures refused { IsOkUnless result TableError.OutOfMemory }
+{
     Ok(TableParts {
         fold: case::fold_pairs(alloc)?,
         upper: case::upper_pairs(alloc)?,
         id_start: sets::intervals(alloc, Set::Binary(BinaryProperty::IdStart))?,
         id_continue: sets::intervals(alloc, Set::Binary(BinaryProperty::IdContinue))?,
-        properties: properties::properties(alloc)?,
-        sequences: sequences::sequences(alloc)?,
+        properties: Vec::new(alloc),
+        sequences: Vec::new(alloc),
     })
 }
 
