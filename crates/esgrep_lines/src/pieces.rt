@@ -1,10 +1,7 @@
 //! Texts that may be searched piece by piece.
-ghost use Rattle.std.specs.Prelude.{◌≡◌, ◌≤◌, ◌+◌, ◌++◌, ◌↔◌, ℕ, List, [], true, length, IsTrue};
-ghost use Rattle.esgrep_rows.specs.Lines.{byte_of, is_last};
-ghost use Rattle.esgrep_rows.specs.Found.{Find, but_for};
-ghost use Rattle.esgrep_rows.specs.Rows.{selected_lines};
-ghost use Rattle.esgrep_lines.specs.Output.{all_rows};
-ghost use Rattle.esgrep_lines.specs.Pieces.{IsAnywhere, KnowsNoPlace, puts_rows};
+ghost use Rattle.std.specs.Prelude.{◌≡◌, ◌↔◌, ℕ, List, true, IsTrue};
+ghost use Rattle.esgrep_rows.specs.Found.{Find};
+ghost use Rattle.esgrep_lines.specs.Pieces.{IsAnywhere, ArePieces, RowsGoByPieces, CountGoesByPieces, KnowsNoPlace, MayGoByPieces, puts_rows};
 
 use esgrep_rows::{Mode, Options};
 
@@ -34,13 +31,11 @@ fn knows_no_place(options: &Options) -> bool
 /// let may_read_on = goes_by_pieces(&options); // with `numbers` false
 /// ```
 pub fn goes_by_pieces(options: &Options) -> bool
+    ensures told { IsTrue result ↔ MayGoByPieces options.now }
     ensures rows { IsTrue result → puts_rows options.now.mode ≡ true → (find : Find) → IsAnywhere find → (name front rest : List ℕ) →
-        is_last (byte_of options.now.ending) front ≡ true → length front + length rest ≤ options.now.most →
-        all_rows options.now (but_for [] find) name (front ++ rest) ≡ all_rows options.now (but_for [] find) name front ++ all_rows options.now (but_for [] find) name rest }
+        ArePieces options.now front rest → RowsGoByPieces options.now find name front rest }
     ensures count { IsTrue result → (find : Find) → IsAnywhere find → (front rest : List ℕ) →
-        is_last (byte_of options.now.ending) front ≡ true → length front + length rest ≤ options.now.most →
-        length (selected_lines options.now (but_for [] find) (front ++ rest))
-        ≡ length (selected_lines options.now (but_for [] find) front) + length (selected_lines options.now (but_for [] find) rest) }
+        ArePieces options.now front rest → CountGoesByPieces options.now find front rest }
 {
     let is_whole = options.most == usize::MAX;
     if puts_rows(options.mode) {
