@@ -23,91 +23,71 @@ fn flags(alloc: Global, settings: &Settings<'_>) -> Result<Flags, Refusal> {
     Ok(flags)
 }
 
-/// Why a pattern is refused: with a caret where it is none, and past the limit with that.
-fn refusal(
+/// What patterns are compiled by.
+#[derive(Clone, Copy)]
+struct Compiler<'t> {
     alloc: Global,
-    error: CompileError,
-    pattern: &str,
     flags: Flags,
-    tables: &Tables,
+    tables: &'t Tables,
     limit: usize,
-) -> Result<Refusal, AllocError> {
-    if matches!(error, CompileError::PastLimit) {
-        let told = format!(in alloc;
-            "a pattern may become more than {limit} instructions, which --regex-size-limit sets"
-        )?;
-        return Ok(Refusal::Told(told));
-    }
-    let told = match syntax_error(alloc, pattern, flags, tables) {
-        Ok(Some(refused)) => refused.display(pattern).to_string(alloc)?,
-        _ => error.to_string(alloc)?,
-    };
-    Ok(Refusal::Told(told))
 }
 
-/// A pattern is compiled within a limit.
-fn compile(
-    alloc: Global,
-    pattern: &str,
-    flags: Flags,
-    tables: &Tables,
-    limit: usize,
-) -> Result<Regex, Refusal> {
-    match Regex::with_limit(alloc, pattern, flags, tables, limit) {
-        Ok(regex) => Ok(regex),
-        Err(error) => Err(refusal(alloc, error, pattern, flags, tables, limit)?),
+impl Compiler<'_> {
+    /// Why a pattern is refused: with a caret where it is none, and past the limit with that.
+    fn refusal(self, error: CompileError, pattern: &str) -> Result<Refusal, AllocError> {
+        let Compiler {
+            alloc,
+            flags,
+            tables,
+            limit,
+        } = self;
+        if matches!(error, CompileError::PastLimit) {
+            let told = format!(in alloc;
+                "a pattern may become more than {limit} instructions, which --regex-size-limit sets"
+            )?;
+            return Ok(Refusal::Told(told));
+        }
+        let told = match syntax_error(alloc, pattern, flags, tables) {
+            Ok(Some(refused)) => refused.display(pattern).to_string(alloc)?,
+            _ => error.to_string(alloc)?,
+        };
+        Ok(Refusal::Told(told))
     }
-}
 
-/// A pattern is compiled within a limit for matches that take a whole line.
-fn whole_line(
-    alloc: Global,
-    pattern: &str,
-    flags: Flags,
-    tables: &Tables,
-    limit: usize,
-) -> Result<Regex, Refusal> {
-    match Regex::whole_text_with_limit(alloc, pattern, flags, tables, limit) {
-        Ok(regex) => Ok(regex),
-        Err(error) => Err(refusal(alloc, error, pattern, flags, tables, limit)?),
+    /// A pattern, compiled within the limit.
+    fn compile(self, pattern: &str) -> Result<Regex, Refusal> {
+        match Regex::with_limit(self.alloc, pattern, self.flags, self.tables, self.limit) {
+            Ok(regex) => Ok(regex),
+            Err(error) => Err(self.refusal(error, pattern)?),
+        }
     }
-}
 
-/// A pattern for matches of this one that stand between characters that are no word characters.
-fn whole_word(
-    alloc: Global,
-    pattern: &str,
-    flags: Flags,
-    tables: &Tables,
-    limit: usize,
-) -> Result<Regex, Refusal> {
-    let whole = format!(in alloc; "(?<!\\w)(?:{pattern})(?!\\w)")?;
-    compile(alloc, whole.as_str(), flags, tables, limit)
-}
-
-/// A pattern of the command line, with what the options ask of it.
-fn asked(
-    alloc: Global,
-    settings: &Settings<'_>,
-    text: &str,
-    flags: Flags,
-    tables: &Tables,
-) -> Result<Regex, Refusal> {
-    let limit = settings.size_limit;
-    let pattern = if settings.fixed {
-        escape(alloc, text)?
-    } else {
-        String::from_str(alloc, text)?
-    };
-    if settings.whole_lines {
-        return whole_line(alloc, pattern.as_str(), flags, tables, limit);
+    /// The same for matches that take a whole line.
+    fn whole_line(self, pattern: &str) -> Result<Regex, Refusal> {
+        let Compiler { flags, tables, .. } = self;
+        match Regex::whole_text_with_limit(self.alloc, pattern, flags, tables, self.limit) {
+            Ok(regex) => Ok(regex),
+            Err(error) => Err(self.refusal(error, pattern)?),
+        }
     }
-    // First alone: a text that is no pattern by itself may be one in a group.
-    let alone = compile(alloc, pattern.as_str(), flags, tables, limit)?;
-    if settings.words {
-        whole_word(alloc, pattern.as_str(), flags, tables, limit)
-    } else {
-        Ok(alone)
+
+    /// A pattern of the command line, with what the options ask of it.
+    fn asked(self, settings: &Settings<'_>, text: &str) -> Result<Regex, Refusal> {
+        let pattern = if settings.fixed {
+            escape(self.alloc, text)?
+        } else {
+            String::from_str(self.alloc, text)?
+        };
+        if settings.whole_lines {
+            return self.whole_line(pattern.as_str());
+        }
+        // First alone: a text that is no pattern by itself may be one in a group.
+        let alone = self.compile(pattern.as_str())?;
+        if !settings.words {
+            return Ok(alone);
+        }
+        let word = format!(in self.alloc; "(?<!\\w)(?:{pattern})(?!\\w)")?;
+        self.compile(word.as_str())
     }
 }
 
@@ -178,9 +158,15 @@ pub(crate) fn regexes<R: Files + AllocGlobal>(
     let flags = flags(alloc, settings)?;
     let texts = texts(rt, settings)?;
     let tables = tables_for(alloc, &texts, flags)?;
+    let compiler = Compiler {
+        alloc,
+        flags,
+        tables: &tables,
+        limit: settings.size_limit,
+    };
     let mut regexes = Vec::new(alloc);
     for text in &texts {
-        regexes.push(asked(alloc, settings, text.as_str(), flags, &tables)?)?;
+        regexes.push(compiler.asked(settings, text.as_str())?)?;
     }
     Ok(regexes)
 }

@@ -3,8 +3,6 @@
 use crate::globs::Globs;
 use crate::refusal::Refusal;
 use std::alloc::{AllocError, Global};
-use std::fs::{File, OpenFile};
-use std::io::Read;
 use std::rt::Files;
 use std::{fs, io};
 
@@ -82,17 +80,4 @@ pub(crate) fn names_in<R: Files + AllocGlobal + Clone + Drop>(
     }
     names.sort_unstable();
     Ok((names, error))
-}
-
-/// The bytes of a file. Room for them is asked for at once, for as many as the file says it has, and for one more, so that the
-/// read that meets the end asks for none. Where that is refused, room grows with what is read.
-pub(crate) fn bytes_of<R: Files + AllocGlobal>(rt: &R, path: &str) -> io::Result<Vec<u8>> {
-    let mut file = File::open(rt, path)?;
-    let mut bytes = Vec::new(rt.alloc());
-    if let Ok(metadata) = file.metadata() {
-        let len = usize::try_from(metadata.len()).unwrap_or(0);
-        let _ = bytes.try_reserve_exact(len.saturating_add(1));
-    }
-    file.read_to_end(&mut bytes)?;
-    Ok(bytes)
 }

@@ -62,93 +62,104 @@ impl Place<'_> {
     }
 }
 
-/// Appends the line of JSON of each match in a text, each line of it searched alone, and answers how many lines have one, at most
-/// as many as the options say. The offsets of lines whose search was given up are put into `given_up`.
-pub(crate) fn push_groups_of_lines(
+/// The lines of JSON of the matches of patterns in a text of this name.
+#[derive(Drop)]
+pub(crate) struct GroupRows<'s, 'p> {
     alloc: Global,
-    patterns: &Patterns<'_>,
-    options: &Options,
-    name: &str,
-    text: &str,
-    given_up: &mut Vec<usize>,
-    rows: &mut String,
-) -> Result<usize, Refusal> {
-    let mut founds = Vec::new(alloc);
-    let mut count = 0;
-    let mut number: usize = 1;
-    let mut rest = text;
-    while !rest.is_empty() && count < options.most {
-        let (line, behind) = first_line(rest, options.ending);
-        let body = body_of(line, options.ending);
-        let start = text.len().saturating_sub(rest.len());
-        find_or_note(patterns, start, body, &mut founds, given_up)?;
-        let place = Place {
+    patterns: &'s Patterns<'p>,
+    options: &'s Options,
+    name: &'s str,
+    pub rows: String,
+    /// The offsets of lines whose search was given up; of a text that is searched whole, its own.
+    pub given_up: Vec<usize>,
+}
+
+impl<'s, 'p> GroupRows<'s, 'p> {
+    /// None yet.
+    pub fn new(
+        alloc: Global,
+        patterns: &'s Patterns<'p>,
+        options: &'s Options,
+        name: &'s str,
+    ) -> GroupRows<'s, 'p> {
+        GroupRows {
             alloc,
+            patterns,
+            options,
             name,
+            rows: String::new(alloc),
+            given_up: Vec::new(alloc),
+        }
+    }
+
+    /// All matches in a text that stands at `start`; none where the search is given up, and then `start` is noted.
+    fn find_or_note(&mut self, start: usize, text: &str) -> Result<Vec<Match>, Refusal> {
+        let mut founds = Vec::new(self.alloc);
+        match self.patterns.find_into(start, text, &mut founds) {
+            Ok(()) => {}
+            Err(FindError::OutOfMemory) => return Err(Refusal::OutOfMemory),
+            Err(FindError::GivenUp) => {
+                founds.clear();
+                self.given_up.push(start)?;
+            }
+        }
+        Ok(founds)
+    }
+
+    /// Appends the line of a match in what is searched of a line.
+    fn push(
+        &mut self,
+        number: usize,
+        start: usize,
+        body: &str,
+        found: &Match,
+    ) -> Result<(), AllocError> {
+        let place = Place {
+            alloc: self.alloc,
+            name: self.name,
             number,
             start,
             body,
         };
-        for found in &founds {
-            rows.push_str(place.line(found)?.as_str())?;
-        }
-        if !founds.is_empty() {
-            count += 1;
-        }
-        number = number.saturating_add(1);
-        rest = behind;
+        self.rows.push_str(place.line(found)?.as_str())
     }
-    Ok(count)
-}
 
-/// Puts all matches in a text that stands at `start` into `founds`; none where the search is given up, and then `start` is noted.
-fn find_or_note(
-    patterns: &Patterns<'_>,
-    start: usize,
-    text: &str,
-    founds: &mut Vec<Match>,
-    given_up: &mut Vec<usize>,
-) -> Result<(), Refusal> {
-    match patterns.find_into(start, text, founds) {
-        Ok(()) => {}
-        Err(FindError::OutOfMemory) => return Err(Refusal::OutOfMemory),
-        Err(FindError::GivenUp) => {
-            founds.clear();
-            given_up.push(start)?;
+    /// Appends the line of each match in a text, each line of it searched alone, and answers how many lines have one, at most as many
+    /// as the options say.
+    pub fn push_of_lines(&mut self, text: &str) -> Result<usize, Refusal> {
+        let Options { ending, most, .. } = *self.options;
+        let mut count = 0;
+        let mut number: usize = 1;
+        let mut rest = text;
+        while !rest.is_empty() && count < most {
+            let (line, behind) = first_line(rest, ending);
+            let body = body_of(line, ending);
+            let start = text.len().saturating_sub(rest.len());
+            let founds = self.find_or_note(start, body)?;
+            for found in &founds {
+                self.push(number, start, body, found)?;
+            }
+            count += usize::from(!founds.is_empty());
+            number = number.saturating_add(1);
+            rest = behind;
         }
+        Ok(count)
     }
-    Ok(())
-}
 
-/// Appends the line of JSON of each match in a text, which is searched whole, and answers how many matches there are, at most as
-/// many as the options say. The number is that of the line in which a match begins. Where the search is given up, there is none,
-/// and the offset of the text is put into `given_up`.
-pub(crate) fn push_groups(
-    alloc: Global,
-    patterns: &Patterns<'_>,
-    options: &Options,
-    name: &str,
-    text: &str,
-    given_up: &mut Vec<usize>,
-    rows: &mut String,
-) -> Result<usize, Refusal> {
-    let mut founds = Vec::new(alloc);
-    find_or_note(patterns, 0, text, &mut founds, given_up)?;
-    let mut number: usize = 1;
-    let mut behind = 0;
-    for found in founds.iter().take(options.most) {
-        let passed = text.as_bytes().get(behind..found.start()).unwrap_or(&[]);
-        let ends = memchr_iter(options.ending.byte(), passed).count();
-        number = number.saturating_add(ends);
-        behind = found.start();
-        let place = Place {
-            alloc,
-            name,
-            number,
-            start: 0,
-            body: text,
-        };
-        rows.push_str(place.line(found)?.as_str())?;
+    /// Appends the line of each match in a text, which is searched whole, and answers how many matches there are, at most as many as
+    /// the options say. The number is that of the line in which a match begins.
+    pub fn push_whole(&mut self, text: &str) -> Result<usize, Refusal> {
+        let Options { ending, most, .. } = *self.options;
+        let founds = self.find_or_note(0, text)?;
+        let mut number: usize = 1;
+        let mut behind = 0;
+        for found in founds.iter().take(most) {
+            let passed = text.as_bytes().get(behind..found.start()).unwrap_or(&[]);
+            let ends = memchr_iter(ending.byte(), passed).count();
+            number = number.saturating_add(ends);
+            behind = found.start();
+            self.push(number, 0, text, found)?;
+        }
+        Ok(founds.len().min(most))
     }
-    Ok(founds.len().min(options.most))
 }

@@ -2,9 +2,9 @@
 
 use crate::command_line::command;
 use crate::compiling::regexes;
-use crate::files::{Chosen, Kind, bytes_of, joined, kind_of, last_name, names_in};
+use crate::files::{Chosen, Kind, joined, kind_of, last_name, names_in};
 use crate::globs::Globs;
-use crate::groups::{push_groups, push_groups_of_lines};
+use crate::groups::GroupRows;
 use crate::line_buffer::LineBuffer;
 use crate::refusal::Refusal;
 use crate::settings::{Coloring, NoText, Settings};
@@ -181,11 +181,6 @@ fn shown_by<'t>(alloc: Global, template: &'t Option<String>) -> Result<Shown<'t>
     }
 }
 
-/// Whether names stand in front of rows, where the command line does not say so.
-fn has_several(settings: &Settings<'_>) -> bool {
-    settings.recursive || settings.paths.len() > 1
-}
-
 /// Compiles the patterns, and searches.
 fn with_settings<R: Runtime + AllocGlobal>(
     rt: &R,
@@ -204,8 +199,9 @@ fn with_settings<R: Runtime + AllocGlobal>(
     let template = template_text(alloc, settings, colored)?;
     let rewrites = template.is_some();
     let shown = shown_by(alloc, &template)?;
+    let has_several = settings.recursive || settings.paths.len() > 1;
     let options = Options {
-        names: settings.named.unwrap_or(has_several(settings)),
+        names: settings.named.unwrap_or(has_several),
         rewrites,
         colored,
         ..settings.options
@@ -244,6 +240,12 @@ impl<'r, 's, 'a, 't, 'p, R: Runtime + AllocGlobal, W: Write + Drop> Search<
             let rt = self.rt;
             let _ = eprintln!(rt; "esgrep: {path}: {message}");
         }
+    }
+
+    /// Tells of a file that can't be searched, and goes on with the others.
+    fn pass(&mut self, path: &str, message: &(impl Display + Drop)) -> Result<(), Stop> {
+        self.tell(path, message);
+        Ok(())
     }
 
     /// Tells of the lines of a text that begin at these offsets, each behind the one before: their search was given up.
@@ -290,15 +292,9 @@ impl<'r, 's, 'a, 't, 'p, R: Runtime + AllocGlobal, W: Write + Drop> Search<
     fn search_path(&mut self, path: &str) -> Result<(), Stop> {
         match kind_of(self.rt, path, true) {
             Ok(Kind::Folder) if self.settings.recursive => self.search_tree(path),
-            Ok(Kind::Folder) => {
-                self.tell(path, &"is a folder: use -r");
-                Ok(())
-            }
+            Ok(Kind::Folder) => self.pass(path, &"is a folder: use -r"),
             Ok(_) => self.search_file(path),
-            Err(error) => {
-                self.tell(path, &error);
-                Ok(())
-            }
+            Err(error) => self.pass(path, &error),
         }
     }
 
@@ -355,47 +351,47 @@ impl<'r, 's, 'a, 't, 'p, R: Runtime + AllocGlobal, W: Write + Drop> Search<
 
     /// Searches a file.
     fn search_file(&mut self, path: &str) -> Result<(), Stop> {
-        if self.goes_by_pieces() {
-            return match File::open(self.rt, path) {
-                Ok(mut file) => self.search_by_pieces(path, &mut file),
-                Err(error) => {
-                    self.tell(path, &error);
-                    Ok(())
-                }
-            };
-        }
-        match bytes_of(self.rt, path) {
-            Ok(bytes) => self.search_bytes(path, &bytes),
-            Err(error) => {
-                self.tell(path, &error);
-                Ok(())
+        match File::open(self.rt, path) {
+            Ok(mut file) => {
+                let len = file.metadata().map_or(0, |metadata| metadata.len());
+                self.search_reader(path, &mut file, usize::try_from(len).unwrap_or(0))
             }
+            Err(error) => self.pass(path, &error),
         }
     }
 
     /// Searches standard input.
     fn search_input(&mut self) -> Result<(), Stop> {
         let mut input = self.rt.reader();
-        if self.goes_by_pieces() {
-            return self.search_by_pieces(STANDARD_INPUT, &mut input);
-        }
-        self.search_rest(STANDARD_INPUT, &mut input, Vec::new(self.rt.alloc()))
+        self.search_reader(STANDARD_INPUT, &mut input, 0)
     }
 
-    /// Searches at once what was read of a file, and what is left of it.
+    /// Searches what a reader gives, which may be so many bytes. Where it is read as a whole, room for them is asked for at once, and for
+    /// one more, so that the read that meets the end asks for none; where that is refused, room grows with what is read.
+    fn search_reader<F: Read>(
+        &mut self,
+        name: &str,
+        reader: &mut F,
+        len: usize,
+    ) -> Result<(), Stop> {
+        if self.goes_by_pieces() {
+            return self.search_by_pieces(name, reader);
+        }
+        let mut bytes = Vec::new(self.rt.alloc());
+        let _ = bytes.try_reserve_exact(len.saturating_add(1));
+        self.search_rest(name, reader, bytes)
+    }
+
+    /// Searches at once what was read, and what is left.
     fn search_rest<F: Read>(
         &mut self,
         name: &str,
-        file: &mut F,
-        read: Vec<u8>,
+        reader: &mut F,
+        mut bytes: Vec<u8>,
     ) -> Result<(), Stop> {
-        let mut bytes = read;
-        match file.read_to_end(&mut bytes) {
+        match reader.read_to_end(&mut bytes) {
             Ok(_) => self.search_bytes(name, &bytes),
-            Err(error) => {
-                self.tell(name, &error);
-                Ok(())
-            }
+            Err(error) => self.pass(name, &error),
         }
     }
 
@@ -404,23 +400,16 @@ impl<'r, 's, 'a, 't, 'p, R: Runtime + AllocGlobal, W: Write + Drop> Search<
         let alloc = self.rt.alloc();
         let mut lines = mem::replace(&mut self.lines, LineBuffer::new(alloc));
         lines.clear();
+        let is_told = self.settings.no_text != NoText::Searched;
         let result = match lines.fill(file, DECIDING) {
-            Err(error) => {
-                self.tell(name, &error);
-                Ok(())
-            }
-            Ok(()) if self.is_binary(lines.bytes()) => {
+            Err(error) => self.pass(name, &error),
+            Ok(()) if is_told && is_binary(lines.bytes(), self.options.ending) => {
                 self.search_rest(name, file, lines.bytes().to_vec(alloc)?)
             }
             Ok(()) => self.search_pieces(name, file, &mut lines),
         };
         self.lines = lines;
         result
-    }
-
-    /// Whether a file with these bytes in front is not searched as text.
-    fn is_binary(&self, front: &[u8]) -> bool {
-        self.settings.no_text != NoText::Searched && is_binary(front, self.options.ending)
     }
 
     /// Searches the pieces of a file, of which the first was read.
@@ -431,6 +420,9 @@ impl<'r, 's, 'a, 't, 'p, R: Runtime + AllocGlobal, W: Write + Drop> Search<
         lines: &mut LineBuffer,
     ) -> Result<(), Stop> {
         self.tally.texts = self.tally.texts.saturating_add(1);
+        // Of these only that one line is selected matters.
+        let mode = self.options.mode;
+        let needs_one = matches!(mode, Mode::WithMatch | Mode::WithoutMatch | Mode::Quiet);
         let mut count: usize = 0;
         let mut passed: usize = 0;
         for _ in 0..u64::MAX {
@@ -439,7 +431,7 @@ impl<'r, 's, 'a, 't, 'p, R: Runtime + AllocGlobal, W: Write + Drop> Search<
             let (selected, is_text) = self.search_piece(name, passed, piece)?;
             count = count.saturating_add(selected);
             passed = passed.saturating_add(len);
-            if !is_text || lines.is_ended() || self.is_told(count) {
+            if !is_text || lines.is_ended() || (needs_one && count > 0) {
                 break;
             }
             if let Err(error) = lines.pass(file, len) {
@@ -449,14 +441,6 @@ impl<'r, 's, 'a, 't, 'p, R: Runtime + AllocGlobal, W: Write + Drop> Search<
         }
         self.tally.bytes = self.tally.bytes.saturating_add(passed);
         self.finish_pieces(name, count)
-    }
-
-    /// Whether no more lines have to be looked for, where so many are selected: only that there is one matters.
-    fn is_told(&self, count: usize) -> bool {
-        match self.options.mode {
-            Mode::WithMatch | Mode::WithoutMatch | Mode::Quiet => count > 0,
-            Mode::Lines | Mode::Matches | Mode::Count => false,
-        }
     }
 
     /// Searches a piece of a file, in front of which so many bytes stand. Answers how many lines are selected, and whether all of it
@@ -473,7 +457,8 @@ impl<'r, 's, 'a, 't, 'p, R: Runtime + AllocGlobal, W: Write + Drop> Search<
             Content::Text(text) => Ok((self.put_piece(name, text)?, true)),
             Content::NotUtf8(text, offset) => {
                 let selected = self.put_piece(name, text)?;
-                self.tell_not_utf8(name, passed.saturating_add(offset));
+                let wrong = passed.saturating_add(offset);
+                self.tell(name, &format_args!("not UTF-8 from byte {wrong} on"));
                 Ok((selected, false))
             }
             Content::Binary(_) | Content::Skipped => Ok((0, true)),
@@ -498,20 +483,10 @@ impl<'r, 's, 'a, 't, 'p, R: Runtime + AllocGlobal, W: Write + Drop> Search<
             if self.output.failed() {
                 return Err(Stop::Unwritten);
             }
-            put_count(
-                self.rt.alloc(),
-                &self.options,
-                name,
-                count,
-                &mut self.output,
-            )?;
+            let (alloc, output) = (self.rt.alloc(), &mut self.output);
+            put_count(alloc, &self.options, name, count, output)?;
         }
         self.searched()
-    }
-
-    /// Tells of a file that is not UTF-8 from an offset on.
-    fn tell_not_utf8(&mut self, name: &str, offset: usize) {
-        self.tell(name, &format_args!("not UTF-8 from byte {offset} on"));
     }
 
     /// Searches what was read, as far as it is text.
@@ -537,7 +512,7 @@ impl<'r, 's, 'a, 't, 'p, R: Runtime + AllocGlobal, W: Write + Drop> Search<
             Content::Skipped => {}
             Content::NotUtf8(text, offset) => {
                 self.search_text(name, text)?;
-                self.tell_not_utf8(name, offset);
+                self.tell(name, &format_args!("not UTF-8 from byte {offset} on"));
             }
         }
         self.searched()
@@ -577,17 +552,18 @@ impl<'r, 's, 'a, 't, 'p, R: Runtime + AllocGlobal, W: Write + Drop> Search<
         if self.output.failed() {
             return Err(Stop::Unwritten);
         }
-        let alloc = self.rt.alloc();
+        let (alloc, shown) = (self.rt.alloc(), &self.shown);
+        let (patterns, output) = (&self.patterns, &mut self.output);
         let mut given_up = Vec::new(alloc);
         let count = search(
             alloc,
-            &self.patterns,
-            &self.shown,
+            patterns,
+            shown,
             &options,
             name,
             text,
             &mut given_up,
-            &mut self.output,
+            output,
         )?;
         self.tell_given_up(name, text, &given_up);
         Ok(count)
@@ -613,47 +589,29 @@ impl<'r, 's, 'a, 't, 'p, R: Runtime + AllocGlobal, W: Write + Drop> Search<
         if self.output.failed() {
             return Err(Stop::Unwritten);
         }
+        let (shown, output) = (&self.shown, &mut self.output);
         let mut given_up = Vec::new(alloc);
-        let count = search(
+        Ok(search(
             alloc,
             &parts,
-            &self.shown,
+            shown,
             &options,
             name,
             text,
             &mut given_up,
-            &mut self.output,
-        )?;
-        Ok(count)
+            output,
+        )?)
     }
 
     /// Puts out a line of JSON for each match in a text, and answers how many lines have one; with `-U` how many matches there are.
     fn put_groups(&mut self, name: &str, text: &str) -> Result<usize, Stop> {
-        let alloc = self.rt.alloc();
-        let (patterns, options) = (&self.patterns, &self.options);
-        let mut given_up = Vec::new(alloc);
-        let mut rows = String::new(alloc);
+        let mut found = GroupRows::new(self.rt.alloc(), &self.patterns, &self.options, name);
         let count = if self.settings.multiline {
-            push_groups(
-                alloc,
-                patterns,
-                options,
-                name,
-                text,
-                &mut given_up,
-                &mut rows,
-            )?
+            found.push_whole(text)?
         } else {
-            push_groups_of_lines(
-                alloc,
-                patterns,
-                options,
-                name,
-                text,
-                &mut given_up,
-                &mut rows,
-            )?
+            found.push_of_lines(text)?
         };
+        let GroupRows { rows, given_up, .. } = found;
         if self.output.failed() {
             return Err(Stop::Unwritten);
         }

@@ -1,7 +1,7 @@
 use Rattle.std.proofs.Common.{length}
 use denote.Text.{Utf8}
 use denote.Shadow.{shadow}
-use Rattle.esgrep_files.proofs.groups.push_groups_of_lines.Given as goal
+use Rattle.esgrep_files.proofs.groups.GroupRows.push_of_lines.Given as goal
 
 abbrev pub invariant-loop-rest : goal.invariant-loop-rest
 invariant-loop-rest l = shadow (Utf8 l.rest)
