@@ -1,5 +1,4 @@
 //! Files read piece by piece, each of whole lines.
-ghost use Rattle.std.specs.Prelude.{◌≤◌, length};
 
 use memchr::memrchr;
 use std::alloc::{AllocError, Global};
@@ -14,15 +13,21 @@ const ROOM: usize = 256 * 1024;
 pub(crate) struct LineBuffer {
     room: Vec<u8>,
     filled: usize,
+    /// How many bytes of it are whole lines; all where the file has ended.
+    whole: usize,
+    /// The byte that ends lines.
+    end: u8,
     is_ended: bool,
 }
 
 impl LineBuffer {
-    /// Of no file, and with no room.
-    pub fn new(alloc: Global) -> LineBuffer {
+    /// Of no file, and with no room. Lines end by this byte.
+    pub fn new(alloc: Global, end: u8) -> LineBuffer {
         LineBuffer {
             room: Vec::new(alloc),
             filled: 0,
+            whole: 0,
+            end,
             is_ended: false,
         }
     }
@@ -30,6 +35,7 @@ impl LineBuffer {
     /// Forgets the file.
     pub fn clear(&mut self) {
         self.filled = 0;
+        self.whole = 0;
         self.is_ended = false;
     }
 
@@ -43,14 +49,9 @@ impl LineBuffer {
         &self.room[..self.filled.min(self.room.len())]
     }
 
-    /// What was read of whole lines; all where the file has ended.
+    /// What was read of whole lines; all that was where the file has ended.
     pub fn whole_lines(&self) -> &[u8] {
-        let bytes = self.bytes();
-        if self.is_ended {
-            bytes
-        } else {
-            &bytes[..lines_end(bytes)]
-        }
+        &self.room[..self.whole.min(self.room.len())]
     }
 
     /// Makes more room, where there is none left.
@@ -67,8 +68,16 @@ impl LineBuffer {
         self.make_room()?;
         let filled = self.filled.min(self.room.len());
         match file.read(&mut self.room[filled..]) {
-            Ok(0) => self.is_ended = true,
-            Ok(read) => self.filled = filled + read,
+            Ok(0) => {
+                self.is_ended = true;
+                self.whole = filled;
+            }
+            Ok(read) => {
+                self.filled = filled + read;
+                if let Some(last) = memrchr(self.end, &self.room[filled..self.filled]) {
+                    self.whole = filled + last + 1;
+                }
+            }
             Err(error) if error.kind() == ErrorKind::Interrupted => {}
             Err(error) => return Err(error),
         }
@@ -93,17 +102,8 @@ impl LineBuffer {
         let count = count.min(filled);
         self.room.copy_within(count..filled, 0);
         self.filled = filled - count;
+        self.whole = self.whole.saturating_sub(count);
         self.read_once(file)?;
         self.fill(file, 0)
-    }
-}
-
-/// Up to where bytes are whole lines.
-fn lines_end(bytes: &[u8]) -> usize
-    ensures { result ≤ length bytes.now }
-{
-    match memrchr(b'\n', bytes) {
-        Some(last) => last + 1,
-        None => 0,
     }
 }

@@ -217,7 +217,7 @@ fn with_settings<R: Runtime + AllocGlobal>(
             exclude: Globs::new(alloc, &settings.exclude)?,
         },
         output: Output::new(alloc, io::writer(rt), settings.by_row),
-        lines: LineBuffer::new(alloc),
+        lines: LineBuffer::new(alloc, options.ending.byte()),
         tally: Tally::default(),
     };
     let stop = files.search_all();
@@ -398,7 +398,7 @@ impl<'r, 's, 'a, 't, 'p, R: Runtime + AllocGlobal, W: Write + Drop> Search<
     /// Searches a file piece by piece, unless it is binary.
     fn search_by_pieces<F: Read>(&mut self, name: &str, file: &mut F) -> Result<(), Stop> {
         let alloc = self.rt.alloc();
-        let mut lines = mem::replace(&mut self.lines, LineBuffer::new(alloc));
+        let mut lines = mem::replace(&mut self.lines, LineBuffer::new(alloc, 0));
         lines.clear();
         let is_told = self.settings.no_text != NoText::Searched;
         let result = match lines.fill(file, DECIDING) {
