@@ -12,3 +12,4 @@ pub mod EndMarks
 pub mod WordMarks
 pub mod LandmarkLemmas
 pub mod NarrowLemmas
+pub mod LeadTables

@@ -6,3 +6,4 @@ pub mod WordStarts
 pub mod Landmarks
 pub mod Runs
 pub mod Halves
+pub mod Leads

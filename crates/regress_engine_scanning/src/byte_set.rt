@@ -13,7 +13,7 @@ use std::simd::prelude::*;
 
 /// The rows of a set, of sixteen bytes each.
 #[inline(always)]
-fn rows_of(set: &ByteBitmap) -> u16x16
+pub(crate) fn rows_of(set: &ByteBitmap) -> u16x16
     ensures { (b : ℕ) → byte_bitmap_contains set.now b ≡ has_bit 16 result b }
 {
     u16x16::from_array(*set.rows())
@@ -21,7 +21,7 @@ fn rows_of(set: &ByteBitmap) -> u16x16
 
 /// The lower halves of rows.
 #[inline(always)]
-fn lower_of(rows: u16x16) -> u8x16
+pub(crate) fn lower_of(rows: u16x16) -> u8x16
     ensures { result ≡ map (λ row. row % 256) rows }
 {
     (rows & u16x16::splat(0xFF)).cast::<u8>()
@@ -29,7 +29,7 @@ fn lower_of(rows: u16x16) -> u8x16
 
 /// The upper halves of rows.
 #[inline(always)]
-fn upper_of(rows: u16x16) -> u8x16
+pub(crate) fn upper_of(rows: u16x16) -> u8x16
     ensures { result ≡ map (λ row. row / 256) rows }
 {
     (rows >> u16x16::splat(8)).cast::<u8>()
@@ -37,7 +37,7 @@ fn upper_of(rows: u16x16) -> u8x16
 
 /// Which of sixteen bytes are members of the set with these halves of rows, a bit for each.
 #[inline(always)]
-fn marks_of(lower: u8x16, upper: u8x16, bytes: u8x16) -> u64
+pub(crate) fn marks_of(lower: u8x16, upper: u8x16, bytes: u8x16) -> u64
     ensures { result ≡ mask_l (map (halved lower upper) bytes) }
 {
     let place = bytes & u8x16::splat(15);
