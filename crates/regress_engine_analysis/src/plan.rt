@@ -1,5 +1,5 @@
 //! What is known of the addresses of a program.
-ghost use Rattle.std.specs.Prelude.{◌≡◌, ℕ, IfOk, not};
+ghost use Rattle.std.specs.Prelude.{◌≡◌, ℕ, IfOk, not, option_copied, slice_get};
 ghost use Rattle.regress_engine_insn.specs.ProgramViews.{program_from};
 ghost use Rattle.regress_engine_analysis.specs.Submatches.{has_submatches};
 
@@ -10,6 +10,7 @@ use crate::shortcuts::add_known;
 use crate::submatches::has_submatches;
 use crate::ways::{Ways, add_ways, way_ahead};
 use regress_engine_insn::Insn;
+use regress_front_bytes::ByteBitmap;
 use regress_front_nodes::BracketContents;
 use std::alloc::{AllocError, Global};
 
@@ -56,6 +57,22 @@ impl Plan {
             ways,
             submatches: has_submatches(insns),
         })
+    }
+
+    /// The bytes with which a match from an address on may begin, read forward; `None` where there is no such address.
+    ///
+    /// ```rust
+    /// let first = plan.first_bytes(0);
+    /// ```
+    #[inline(always)]
+    pub fn first_bytes(&self, at: usize) -> Option<&ByteBitmap>
+        ensures { option_copied result ≡ slice_get (firsts (facts_of self.now)) at }
+    {
+        if at < self.facts.len() {
+            Some(&self.facts.at(at).first)
+        } else {
+            None
+        }
     }
 
     /// Whether no match can be reached from an address on where a byte stands ahead, read forward.

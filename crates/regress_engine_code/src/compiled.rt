@@ -1,5 +1,5 @@
 //! Programs as they are handed out.
-ghost use Rattle.std.specs.Prelude.{◌≡◌, ◌<◌, length, map, slice_index_or, IfOk, IfErr, IfSome};
+ghost use Rattle.std.specs.Prelude.{◌≡◌, ◌<◌, length, map, option_copied, slice_get, slice_index_or, IfOk, IfErr, IfSome};
 ghost use Rattle.std.specs.Arc.{arc_slice_items};
 ghost use Rattle.regress_engine_insn.specs.ProgramViews.{bracket_ends, program_from, target_from};
 ghost use Rattle.regress_engine_analysis.specs.Planned.{ArePlanned, AreTabled};
@@ -12,7 +12,7 @@ use crate::brackets::copies_of;
 use regress_engine_analysis::{Known, Plan};
 use regress_engine_insn::Insn;
 use regress_engine_prefix::StartPredicate;
-use regress_front_bytes::AsciiBitmap;
+use regress_front_bytes::{AsciiBitmap, ByteBitmap};
 use regress_front_core::{CaptureGroupName, Error, Flags};
 use regress_front_nodes::BracketContents;
 use regress_front_tables::Tables;
@@ -143,6 +143,19 @@ impl CompiledRegex {
         ensures { result ≡ cannot_begin_with self.now at byte }
     {
         self.plan.cannot_begin_with(at, byte)
+    }
+
+    /// The bytes of UTF-8 with which the character ahead begins where a match may be reached from an address on, read forward: each other
+    /// byte is one of which `cannot_begin_with` tells that. `None` where there is no such address.
+    ///
+    /// ```rust
+    /// let first = program.first_bytes(0);
+    /// ```
+    #[inline(always)]
+    pub fn first_bytes(&self, at: usize) -> Option<&ByteBitmap>
+        ensures { option_copied result ≡ slice_get (firsts (facts_of self.now.plan)) at }
+    {
+        self.plan.first_bytes(at)
     }
 
     /// What else is known of an address without running the program. Of `a*b` that is `Known::Possessive` at address 0.
