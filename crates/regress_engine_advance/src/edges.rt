@@ -10,7 +10,7 @@ ghost use Rattle.regress_engine_runs.specs.States.{Marks};
 ghost use Rattle.regress_engine_runs.specs.Runs.{advance};
 ghost use Rattle.regress_engine_singles.specs.Taking.{is_assertion};
 
-use crate::reading::{ascii_ahead, ascii_before, beside};
+use crate::reading::{beside, plain_ahead, plain_before};
 use regress_engine_input::InputIndexer;
 use regress_engine_insn::Insn;
 use regress_engine_matchers::{CharInput, CharProperties};
@@ -88,7 +88,7 @@ pub fn boundary<Input: CharInput>(input: &Input, folded: bool, offset: usize) ->
     word_beside(input, folded, false, offset) != word_beside(input, folded, true, offset)
 }
 
-/// Whether a word begins or ends at an offset of bytes, where characters of ASCII stand on both of its sides; else `None`.
+/// Whether a word begins or ends at an offset, where characters of ASCII stand on both of its sides; else `None`.
 ///
 /// ```rust
 /// let edge = ascii_boundary(&input, 1); // of `a b` `Some(true)`
@@ -97,8 +97,8 @@ pub fn boundary<Input: CharInput>(input: &Input, folded: bool, offset: usize) ->
 pub fn ascii_boundary<Input: CharInput>(input: &Input, offset: usize) -> Option<bool>
     ensures { IfSome result (λ edge. edge ≡ at_boundary (input_of (Input.view input.now)) false offset) }
 {
-    let (before, _) = ascii_before(input, offset)?;
-    let (ahead, _) = ascii_ahead(input, offset)?;
+    let (before, _) = plain_before(input, offset)?;
+    let (ahead, _) = plain_ahead(input, offset)?;
     let was = <Input::CharProps as CharProperties>::is_word_char(before);
     Some(was != <Input::CharProps as CharProperties>::is_word_char(ahead))
 }

@@ -1,5 +1,5 @@
 //! The byte with which the character ahead of an offset begins.
-ghost use Rattle.std.specs.Prelude.{◌≡◌, ◌≤◌, false, length};
+ghost use Rattle.std.specs.Prelude.{◌≡◌, false, Some, slice_get};
 ghost use Rattle.regress_meaning.specs.Meaning.{Forward as ahead};
 ghost use Rattle.regress_engine_input.specs.Views.{are_bytes, in_bytes, unit_beside};
 ghost use Rattle.regress_engine_singles.specs.Leads.{lead_ahead};
@@ -20,13 +20,17 @@ fn next_byte<Input: InputIndexer>(input: &Input, offset: usize) -> Option<u8>
     input.peek_byte_right(position)
 }
 
-/// The byte with which the character ahead of an offset of units begins in UTF-8, told by the character.
+/// The byte with which the character ahead of an offset of units begins in UTF-8, where this unit stands there: told by the unit, or
+/// where that may be one half of a pair by the character.
 #[inline(never)]
-fn lead_beyond<Input: InputIndexer>(input: &Input, offset: usize) -> Option<u8>
+fn lead_beyond<Input: InputIndexer>(input: &Input, unit: u16, offset: usize) -> Option<u8>
     requires kind { are_bytes (Input.view input.now).kind ≡ false }
-    requires inside { offset ≤ length (Input.view input.now).units }
+    requires unit { slice_get (Input.view input.now).units offset ≡ Some unit }
     ensures { result ≡ lead_ahead (Input.view input.now) offset }
 {
+    if unit < 0xD800 {
+        return Some(utf8_first_byte(u32::from(unit)));
+    }
     let (c, _) = beside(input, true, offset)?;
     Some(utf8_first_byte(c.as_u32()))
 }
@@ -45,7 +49,7 @@ fn unit_lead<Input: InputIndexer>(input: &Input, units: &[u16], offset: usize) -
     if unit < 0x80 {
         return Some(unit as u8);
     }
-    lead_beyond(input, offset)
+    lead_beyond(input, unit, offset)
 }
 
 /// The byte with which the character ahead of an offset begins in UTF-8, whatever holds the text; over bytes that is the one that

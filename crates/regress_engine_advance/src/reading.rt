@@ -23,10 +23,7 @@ fn read<Input: InputIndexer, Dir: Direction>(
 
 /// The character ahead of an offset, and the offset behind it, where a character of ASCII stands there in bytes.
 #[inline(always)]
-pub(crate) fn ascii_ahead<Input: InputIndexer>(
-    input: &Input,
-    offset: usize,
-) -> Option<(Input::Element, usize)>
+fn ascii_ahead<Input: InputIndexer>(input: &Input, offset: usize) -> Option<(Input::Element, usize)>
     ensures { IfSome result (λ x. (input_of (Input.view input.now)).next ahead offset ≡ Some (Input.Element.code x.0, x.1)) }
 {
     let text = input.bytes()?;
@@ -39,7 +36,7 @@ pub(crate) fn ascii_ahead<Input: InputIndexer>(
 
 /// The character before an offset, and the offset before it, where a character of ASCII stands there in bytes.
 #[inline(always)]
-pub(crate) fn ascii_before<Input: InputIndexer>(
+fn ascii_before<Input: InputIndexer>(
     input: &Input,
     offset: usize,
 ) -> Option<(Input::Element, usize)>
@@ -79,6 +76,34 @@ fn unit_before<Input: InputIndexer>(input: &Input, offset: usize) -> Option<(Inp
     Some((c, offset - 1))
 }
 
+/// The character ahead of an offset, and the offset behind it, where a character of ASCII stands there, in bytes or in units.
+#[inline(always)]
+pub(crate) fn plain_ahead<Input: InputIndexer>(
+    input: &Input,
+    offset: usize,
+) -> Option<(Input::Element, usize)>
+    ensures { IfSome result (λ x. (input_of (Input.view input.now)).next ahead offset ≡ Some (Input.Element.code x.0, x.1)) }
+{
+    match ascii_ahead(input, offset) {
+        Some(found) => Some(found),
+        None => unit_ahead(input, offset),
+    }
+}
+
+/// The character before an offset, and the offset before it, where a character of ASCII stands there, in bytes or in units.
+#[inline(always)]
+pub(crate) fn plain_before<Input: InputIndexer>(
+    input: &Input,
+    offset: usize,
+) -> Option<(Input::Element, usize)>
+    ensures { IfSome result (λ x. (input_of (Input.view input.now)).next backward offset ≡ Some (Input.Element.code x.0, x.1)) }
+{
+    match ascii_before(input, offset) {
+        Some(found) => Some(found),
+        None => unit_before(input, offset),
+    }
+}
+
 /// The character beside an offset, forward or backward, and the offset behind it. One of ASCII is read at once.
 ///
 /// Asks that characters may be read from the offset on.
@@ -96,18 +121,12 @@ pub fn beside<Input: InputIndexer>(
     ensures { option_map (λ x. (Input.Element.code x.0, x.1)) result ≡ (input_of (Input.view input.now)).next (direction_of forward) offset }
 {
     if forward {
-        if let Some(found) = ascii_ahead(input, offset) {
-            return Some(found);
-        }
-        if let Some(found) = unit_ahead(input, offset) {
+        if let Some(found) = plain_ahead(input, offset) {
             return Some(found);
         }
         return read(input, Forward::new(), offset);
     }
-    if let Some(found) = ascii_before(input, offset) {
-        return Some(found);
-    }
-    if let Some(found) = unit_before(input, offset) {
+    if let Some(found) = plain_before(input, offset) {
         return Some(found);
     }
     read(input, Backward::new(), offset)

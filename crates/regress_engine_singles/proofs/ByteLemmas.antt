@@ -68,11 +68,10 @@ other-stands v (x ∷ rest) o b some is other = other-there v x rest o (ap (λ n
 low-right : (b x y z : ℕ) → nat_lt b 0x80 ≡ true → bytes_right b x y z ≡ (b, 1)
 low-right b x y z e = rw e refl
 
--- nor is it half of a pair
-low-pair : (o b : ℕ) (v : Option ℕ) → b < 0x80 → pair_right o b v ≡ (b, suc o)
-low-pair o b None low = refl
-low-pair o b (Some v) low =
-    let half : is_high b ≡ false = grind (arith, nat_tests) in ap (λ t. if t && is_low v then (joined b v, suc (suc o)) else (b, suc o)) half
+-- a unit that is no first half of a pair is a character
+lone-pair : (o b : ℕ) (v : Option ℕ) → is_high b ≡ false → pair_right o b v ≡ (b, suc o)
+lone-pair o b None lone = refl
+lone-pair o b (Some v) lone = ap (λ t. if t && is_low v then (joined b v, suc (suc o)) else (b, suc o)) lone
 
 -- a byte of ASCII, or a unit of the same number, that stands at an offset is the character ahead
 pub unit-next : (kind : Kind) (table : Table) (unicode : Bool) (units : List ℕ) (b o : ℕ) → b < 0x80 → slice_get units o ≡ Some b
@@ -84,8 +83,16 @@ unit-next utf8 table unicode units b o low here =
     ∙ ap (λ x. Some (onto_right o x)) (low-right b (byte_at units (o + 1)) (byte_at units (o + 2)) (byte_at units (o + 3)) small)
     ∙ ap (λ p. Some (b, p)) one
 unit-next ascii table unicode units b o low here = ap (option_map (λ c. (c, suc o))) here
-unit-next utf16 table unicode units b o low here = ap (option_map (λ u. pair_right o u (slice_get units (suc o)))) here ∙ ap Some (low-pair o b (slice_get units (suc o)) low)
+unit-next utf16 table unicode units b o low here = ap (option_map (λ u. pair_right o u (slice_get units (suc o)))) here ∙ ap Some (lone-pair o b (slice_get units (suc o)) (grind (arith, nat_tests)))
 unit-next ucs2 table unicode units b o low here = ap (option_map (λ c. (c, suc o))) here
+
+-- and so is a unit that is no first half of a pair
+pub lone-next : (kind : Kind) (table : Table) (unicode : Bool) (units : List ℕ) (b o : ℕ) → are_bytes kind ≡ false → is_high b ≡ false → slice_get units o ≡ Some b
+    → (input_of_kind kind table unicode units).next Forward o ≡ Some (b, suc o)
+lone-next utf8 table unicode units b o are lone here = absurd (cc are)
+lone-next ascii table unicode units b o are lone here = absurd (cc are)
+lone-next utf16 table unicode units b o are lone here = ap (option_map (λ u. pair_right o u (slice_get units (suc o)))) here ∙ ap Some (lone-pair o b (slice_get units (suc o)) lone)
+lone-next ucs2 table unicode units b o are lone here = ap (option_map (λ c. (c, suc o))) here
 
 -- where the text ends no character is ahead
 pub none-ahead : (kind : Kind) (table : Table) (unicode : Bool) (units : List ℕ) (o : ℕ) → slice_get units o ≡ None → (input_of_kind kind table unicode units).next Forward o ≡ None

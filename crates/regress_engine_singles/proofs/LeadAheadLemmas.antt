@@ -15,7 +15,7 @@ use Rattle.regress_engine_input.specs.Views.{View, Kind, utf8, ascii, utf16, ucs
 use Rattle.regress_engine_prefix.specs.FirstBytes.{MayLead}
 use Rattle.regress_engine_prefix.proofs.LeadLemmas.{has-lead, MayLead-first}
 use Rattle.regress_engine_singles.specs.Leads.{lead_ahead}
-use Rattle.regress_engine_singles.proofs.ByteLemmas.{unit-next}
+use Rattle.regress_engine_singles.proofs.ByteLemmas.{lone-next, unit-next}
 use Rattle.regress_engine_singles.proofs.LeadLemmas.{next-begins, none-ahead, some-ahead, unit-leads}
 
 -- ---- characters of units are code points
@@ -101,6 +101,10 @@ module _ (v : View) where
     pub lead_low : (b : ℕ) → slice_get v.units o ≡ Some b → b < 0x80 → Some b ≡ lead_ahead v o
     lead_low b here low =
         lead_read b (suc o) b (unit-next v.kind v.table v.unicode v.units b o low here) (ap (λ bs. slice_get bs 0) (encode_ascii b low))
+
+    -- where that is of one unit, that of the unit
+    pub lead_lone : (c b : ℕ) → slice_get v.units o ≡ Some c → is_high c ≡ false → slice_get (encode_utf8 c) 0 ≡ Some b → Some b ≡ lead_ahead v o
+    lead_lone c b here lone first = lead_read c (suc o) b (lone-next v.kind v.table v.unicode v.units c o are lone here) first
 
     -- and none where the text ends
     pub lead_past : length v.units ≤ o → None ≡ lead_ahead v o
