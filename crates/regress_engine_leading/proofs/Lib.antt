@@ -3,3 +3,4 @@ pub mod ExitLemmas
 pub mod RepeatLemmas
 pub mod RunLemmas
 pub mod WordLemmas
+pub mod LeadLemmas

@@ -1,7 +1,8 @@
 //! What a program begins with: a class and a run of characters, or what is asked of the place.
-ghost use Rattle.std.specs.Prelude.{◌≡◌, ◌<◌, ℕ, true, false, IfSome};
+ghost use Rattle.std.specs.Prelude.{◌≡◌, ◌==◌, ◌<◌, ◌||◌, ℕ, true, false, IfSome};
 ghost use Rattle.regress_meaning.specs.Steps.{at_boundary};
 ghost use Rattle.regress_meaning.specs.Meaning.{Forward as ahead};
+ghost use Rattle.regress_front_bytes.specs.Bitmaps.{byte_bitmap_contains};
 ghost use Rattle.regress_engine_insn.specs.Instructions.{Program, Stands, boundary, line_start};
 ghost use Rattle.regress_engine_insn.specs.InsnViews.{instruction};
 ghost use Rattle.regress_engine_code.specs.Standing.{program_of};
@@ -23,7 +24,9 @@ use regress_engine_analysis::is_class;
 use regress_engine_code::CompiledRegex;
 use regress_engine_insn::Insn;
 use regress_engine_matchers::{CharInput, CharProperties};
+use regress_engine_scanning::find_lead;
 use regress_engine_singles::{as_far_ahead, is_assertion, is_possessive, takes_one};
+use regress_front_bytes::ByteBitmap;
 use regress_front_tables::is_ascii_word;
 
 /// What is known of a place before a run begins there.
@@ -260,9 +263,20 @@ fn at_line<Input: CharInput>(
     Beginning::At(1)
 }
 
-/// The offset behind the characters of ASCII ahead of one with which no match may begin, one after another.
+/// The bytes of a set, and 0xFF, which no character begins with.
 #[inline(always)]
-fn behind_ascii<Input: CharInput>(
+fn with_halves(first: &ByteBitmap) -> ByteBitmap
+    ensures { (b : ℕ) → byte_bitmap_contains result b ≡ byte_bitmap_contains first.now b || 0xFF == b }
+{
+    let mut set = *first;
+    set.set(0xFF);
+    set
+}
+
+/// The offset behind the characters ahead of one with which no match may begin, one after another, as far as each is one unit and no half of
+/// a pair.
+#[inline(always)]
+fn behind_leads<Input: CharInput>(
     program: &CompiledRegex,
     input: &Input,
     units: &[u16],
@@ -274,15 +288,13 @@ fn behind_ascii<Input: CharInput>(
     requires units { units.now ≡ (Input.view input.now).units }
     ensures { Reaches (program_of program.now) (Input.view input.now) start result }
 {
-    let mut at = start;
-    while at < units.len() {
-        let unit = units[at];
-        if unit >= 0x80 || !is_dead_ahead(program, 0, unit as u8) {
-            break;
-        }
-        at += 1;
+    let Some(first) = program.first_bytes(0) else {
+        return start;
+    };
+    match find_lead(&with_halves(first), units, start) {
+        Some(at) => at,
+        None => units.len(),
     }
-    at
 }
 
 /// The offset behind the characters of ASCII ahead of one, one after another, with which no match may begin, where the program asks
@@ -321,7 +333,7 @@ fn behind_words<Input: CharInput>(
     at
 }
 
-/// The offset behind the characters of ASCII ahead of one from which surely no match can be reached, one after another.
+/// The offset behind the characters ahead of one from which surely no match can be reached, one after another, as far as they are told at once.
 #[inline(always)]
 fn behind_dead<Input: CharInput>(
     program: &CompiledRegex,
@@ -341,7 +353,7 @@ fn behind_dead<Input: CharInput>(
     }
     match &insns[0] {
         Insn::WordBoundary { invert: false } => behind_words(program, input, units, start),
-        _ => behind_ascii(program, input, units, start),
+        _ => behind_leads(program, input, units, start),
     }
 }
 
@@ -395,8 +407,10 @@ pub fn known_at<Input: CharInput>(program: &CompiledRegex, input: &Input, start:
         return Beginning::At(0);
     }
     if let Some(units) = input.units() {
-        if let Some(past) = passed_leads(program, input, units, start) {
-            return Beginning::Passed(past);
+        if is_dead(program, input, 0, true, start) {
+            if let Some(past) = passed_leads(program, input, units, start) {
+                return Beginning::Passed(past);
+            }
         }
     }
     match &insns[0] {
