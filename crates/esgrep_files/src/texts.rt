@@ -1,8 +1,8 @@
 //! Whether a file is text.
 
 use crate::settings::NoText;
-use esgrep_rows::Ending;
-use memchr::{memchr, memrchr};
+use esgrep_rows::{Ending, lines_before};
+use memchr::memchr;
 use simdutf8::compat::from_utf8;
 use std::alloc::{AllocError, Global};
 
@@ -33,11 +33,10 @@ pub(crate) fn is_binary(bytes: &[u8], ending: Ending) -> bool {
 /// The lines in front of the one that holds the first wrong byte.
 fn lines_in_front(bytes: &[u8], wrong: usize, ending: Ending) -> &str {
     let front = bytes.get(..wrong).unwrap_or(&[]);
-    let end = memrchr(ending.byte(), front).map_or(0, |last| last + 1);
-    front
-        .get(..end)
-        .and_then(|lines| from_utf8(lines).ok())
-        .unwrap_or("")
+    match from_utf8(front) {
+        Ok(text) => lines_before(text, Some(text.len()), ending).0,
+        Err(_) => "",
+    }
 }
 
 /// What a piece of a file that is not binary holds.

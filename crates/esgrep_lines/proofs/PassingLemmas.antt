@@ -105,7 +105,8 @@ rows-past o seen name most number start p (x ∷ xs) ys none before behind =
     ∙ ap (λ q. rows o seen name most q more) (sym (held-none o p line before))
     ∙ sym (ap (rows o seen name most p) (numbered-line number start x (xs ++ ys)) ∙ rows-held o seen name most p line more here free)
 
-cond-same : (c : Bool) (a b x y : List ℕ) → a ≡ x → b ≡ y → (if c then a else b) ≡ (if c then x else y)
+-- either of two texts, the same
+pub cond-same : (c : Bool) (a b x y : List ℕ) → a ≡ x → b ≡ y → (if c then a else b) ≡ (if c then x else y)
 cond-same true a b x y e f = e
 cond-same false a b x y e f = f
 

@@ -14,7 +14,7 @@ use Rattle.esgrep_rows.specs.Rows.{Progress, rows, beginning, following, left_ou
 use Rattle.esgrep_rows.proofs.CuttingLemmas.{lines-cut, lines-few}
 use Rattle.esgrep_lines.specs.Output.{all_rows}
 use Rattle.esgrep_lines.specs.Pieces.{IsAnywhere, KnowsNoPlace}
-use Rattle.esgrep_lines.proofs.PassingLemmas.{held-none, and-false}
+use Rattle.esgrep_lines.proofs.PassingLemmas.{held-none, and-false, cond-same}
 use Rattle.esgrep_lines.proofs.RowsLemmas.{rows-none, numbered-none, numbered-line}
 use Rattle.esgrep_lines.proofs.StepLemmas.{rows-selected, rows-held}
 
@@ -33,10 +33,6 @@ lines-joined end front rest ends = by_length (nat_lt 0 (length front)) refl ends
         let here : get_or (front ++ rest) k 0 ≡ get_or front k 0 = get_or_append_left front rest 0 k (omega (arith, some)) in
         lines-cut end (front ++ rest) k below (ap (λ b. eqb b end) here ∙ is)
         ∙ ap₂ (λ a b. lines end a ++ lines end b) (ap (λ n. take n (front ++ rest)) size ∙ take-append_seam front rest) (ap (λ n. drop n (front ++ rest)) size ∙ drop-append_seam front rest)
-
-cond-same : (c : Bool) (a b x y : List ℕ) → a ≡ x → b ≡ y → (if c then a else b) ≡ (if c then x else y)
-cond-same true a b x y e f = e
-cond-same false a b x y e f = f
 
 -- Where nothing is given up, and what is found in a line is the same anywhere.
 module _ (o : Options) (find : Find) (anywhere : IsAnywhere find) where

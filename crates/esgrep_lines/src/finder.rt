@@ -89,8 +89,8 @@ pub trait Finder {
         ensures order { OnOk result (LieInOrder text.now 0 founds.new.items) }
         ensures given { IsErrOf result FindError.GivenUp → gives_up self.now text.now };
 
-    /// An offset of a text in front of which no match lies: nothing is found in a part of the text that ends there or before, unless
-    /// the offset is 0. `None` where nothing is found in any part.
+    /// An offset of a text in front of which no match lies: in a part of the text that ends there or before nothing is found. Offset 0
+    /// says nothing, and `None` that nothing is found in any part.
     ///
     /// ```rust
     /// let at = finder.candidate("to the harbour"); // for `har\w+` at most `Some(7)`, for `x` at most `None`
